@@ -1,0 +1,6 @@
+use Rattle.std.proofs.Common.{refl}
+use Rattle.aq_ring.proofs.AmplitudeLaws.{same_amplitude}
+use Rattle.aq_ring.proofs.Amp.one.Goals as goal
+
+pub returns : goal.returns
+returns c = same_amplitude _ _ c.one.ensures refl

@@ -1,0 +1,29 @@
+use Rattle.aq_ring.proofs.AmplitudeLaws.{lowest_form-own, turn-eight, sum_comm, sum_assoc, sum-zero, sum-opposite, product_comm, product_assoc, product-one, product-zero, product_sum, product_without_zero, same_lowest, same_number, turn-sum, turn-product, quotient_sum, quotient_product}
+use Rattle.aq_ring.proofs.laws.ring.Goals as goal
+
+pub returns : goal.returns
+returns c = record {
+  ring = record {
+    sum_commutative = sum_comm;
+    sum_associative = sum_assoc;
+    sum_zero = sum-zero;
+    sum_opposite = sum-opposite;
+    product_commutative = product_comm;
+    product_associative = product_assoc;
+    product_one = product-one;
+    product_zero = product-zero;
+    product_of_sum = product_sum;
+  };
+  no_zero_divisors = product_without_zero;
+  one_lowest_form = record {
+    lowest_is_itself = lowest_form-own;
+    same_number = λ k l x y. (same_lowest k l x y, same_number k l x y);
+  };
+  steps = record {
+    turn_of_sum = turn-sum;
+    turn_of_product = turn-product;
+    eight_turns = turn-eight;
+    quotient_of_sum = quotient_sum;
+    quotient_of_product = quotient_product;
+  };
+}

@@ -1,0 +1,49 @@
+-- Exact amplitudes, their operations, and what fits.
+use Rattle.std.specs.Prelude.{◌≢◌, ℕ, suc, ◌+◌, ◌-◌, ◌^◌, ◌<◌, max}
+use Rattle.aq_ring.specs.Quads.{Quad, quad_zero, quad_one, quad_sum, quad_product, turned_by, times_roots}
+use Rattle.aq_ring.specs.Fractions.{Amplitude, reduced, reduced-IsLowest, zero-IsLowest, IsInRange, FitsProduct}
+
+-- the amplitude of a fraction
+unfoldable pub lowest_form : ℕ → Quad → Amplitude
+lowest_form k x = record { num = (reduced k x).num; power = (reduced k x).power; lowest = reduced-IsLowest k x }
+
+abbrev pub amplitude_zero : Amplitude
+amplitude_zero = record { num = quad_zero; power = 0; lowest = zero-IsLowest quad_zero }
+
+abbrev pub amplitude_one : Amplitude
+amplitude_one = record { num = quad_one; power = 0; lowest = zero-IsLowest quad_one }
+
+-- the numerator of p over sqrt(2)^n, for an n of at least its power
+abbrev pub num_at : ℕ → Amplitude → Quad
+num_at n p = times_roots (n - p.power) p.num
+
+unfoldable pub sum : Amplitude → Amplitude → Amplitude
+sum p q = let n = max p.power q.power in lowest_form n (quad_sum (num_at n p) (num_at n q))
+
+unfoldable pub product : Amplitude → Amplitude → Amplitude
+product p q = lowest_form (p.power + q.power) (quad_product p.num q.num)
+
+-- times w^j
+unfoldable pub turn : ℕ → Amplitude → Amplitude
+turn j p = lowest_form p.power (turned_by j p.num)
+
+-- the quotient by sqrt(2)
+unfoldable pub quotient : Amplitude → Amplitude
+quotient p = lowest_form (suc p.power) p.num
+
+-- both operands over the greater power, and their sums
+pub record IsSumInRange (p q : Amplitude) : Type 0 where
+  pub left : IsInRange (num_at (max p.power q.power) p)
+  pub right : IsInRange (num_at (max p.power q.power) q)
+  pub sums : IsInRange (quad_sum (num_at (max p.power q.power) p) (num_at (max p.power q.power) q))
+
+-- an operand that is zero always fits
+pub record FitsSum (p q : Amplitude) : Type 0 where
+  pub unless_zero : p ≢ amplitude_zero → q ≢ amplitude_zero → IsSumInRange p q
+
+pub record FitsAmplitudeProduct (p q : Amplitude) : Type 0 where
+  pub numerators : FitsProduct p.num q.num
+  pub powers : p.power + q.power < 2 ^ 32
+
+abbrev pub FitsQuotient : Amplitude → Type 0
+FitsQuotient p = (quotient p).power < 2 ^ 32

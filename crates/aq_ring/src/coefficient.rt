@@ -1,0 +1,124 @@
+//! Whole numbers from `-(2^127 - 1)` to `2^127 - 1`.
+ghost use Rattle.std.specs.Prelude.{◌≡◌, ◌==◌, pos, ◌*ℤ◌, ◌+ℤ◌, ◌-ℤ◌, neg_ℤ};
+ghost use Rattle.std.specs.Option.{SomeIff};
+ghost use Rattle.std.specs.Int.RustNames.{int_div};
+ghost use Rattle.aq_ring.specs.Quads.{parity};
+ghost use Rattle.aq_ring.specs.Fractions.{InRange, FitsTerms};
+
+use std::marker::Model;
+
+/// A contract sees the number.
+#[derive(Clone, Copy, Debug, PartialEq, Eq, Hash)]
+pub(crate) struct Coefficient {
+    value: i128,
+}
+
+impl Model for Coefficient {
+    ghost use Rattle.std.specs.Prelude.{ℤ};
+    ghost use Rattle.aq_ring.specs.Fractions.{InRange};
+
+    ghost Value = { ℤ };
+
+    ghost view = { λ x. x.value };
+
+    ghost invariant = { λ x. InRange x.value };
+
+    ghost inverse = { λ z. record { value = z } };
+}
+
+impl Coefficient {
+    pub(crate) const ZERO: Coefficient = Coefficient { value: 0 };
+
+    /// None exactly where the number is the type's least.
+    pub(crate) fn new(value: i128) -> Option<Coefficient>
+        ensures { SomeIff result (InRange value) value }
+    {
+        if value == i128::MIN {
+            None
+        } else {
+            Some(Coefficient { value })
+        }
+    }
+
+    pub(crate) fn get(self) -> i128
+        ensures value { result ≡ self }
+        ensures range { InRange self }
+    {
+        self.value
+    }
+
+    pub(crate) fn zero() -> Coefficient
+        ensures { result ≡ pos 0 }
+    {
+        Coefficient { value: 0 }
+    }
+
+    pub(crate) fn one() -> Coefficient
+        ensures { result ≡ pos 1 }
+    {
+        Coefficient { value: 1 }
+    }
+
+    pub(crate) fn negated(self) -> Coefficient
+        ensures { result ≡ neg_ℤ self }
+    {
+        Coefficient { value: -self.value }
+    }
+
+    pub(crate) fn add(self, other: Coefficient) -> Option<Coefficient>
+        ensures { SomeIff result (InRange (self +ℤ other)) (self +ℤ other) }
+    {
+        Coefficient::new(self.value.checked_add(other.value)?)
+    }
+
+    pub(crate) fn subtract(self, other: Coefficient) -> Option<Coefficient>
+        ensures { SomeIff result (InRange (self -ℤ other)) (self -ℤ other) }
+    {
+        Coefficient::new(self.value.checked_sub(other.value)?)
+    }
+
+    pub(crate) fn multiply(self, other: Coefficient) -> Option<Coefficient>
+        ensures { SomeIff result (InRange (self *ℤ other)) (self *ℤ other) }
+    {
+        Coefficient::new(self.value.checked_mul(other.value)?)
+    }
+
+    pub(crate) fn has_parity_of(self, other: Coefficient) -> bool
+        ensures { result ≡ (parity self == parity other) }
+    {
+        (self.value % 2 == 0) == (other.value % 2 == 0)
+    }
+
+    /// Half the sum, which may itself be out of range.
+    pub(crate) fn half_sum(self, other: Coefficient) -> Coefficient
+        requires { parity self ≡ parity other }
+        ensures { result ≡ int_div (self +ℤ other) (pos 2) }
+    {
+        let halves = self.value / 2 + other.value / 2;
+        let rests = self.value % 2 + other.value % 2;
+        Coefficient {
+            value: halves + rests / 2,
+        }
+    }
+
+    /// Half the difference, which may itself be out of range.
+    pub(crate) fn half_difference(self, other: Coefficient) -> Coefficient
+        requires { parity self ≡ parity other }
+        ensures { result ≡ int_div (self -ℤ other) (pos 2) }
+    {
+        self.half_sum(other.negated())
+    }
+
+    /// The four terms added from left to right.
+    pub(crate) fn add_terms(
+        self,
+        second: Coefficient,
+        third: Coefficient,
+        fourth: Coefficient,
+    ) -> Option<Coefficient>
+        ensures { SomeIff result (FitsTerms self second third fourth) (self +ℤ second +ℤ third +ℤ fourth) }
+    {
+        let _ = (self.get(), second.get(), third.get(), fourth.get());
+        self.add(second)?.add(third)?.add(fourth)
+    }
+}

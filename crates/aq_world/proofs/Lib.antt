@@ -1,0 +1,3 @@
+mod FilesLemmas
+pub mod PiecesLemmas
+pub mod PrintsLemmas

@@ -1,0 +1,6 @@
+pub mod Causes
+pub mod Files
+pub mod Held
+pub mod Pieces
+pub mod Prints
+pub mod Shelves
