@@ -1,0 +1,8 @@
+//! Programs of gates, measurements, branches and loops, and what their runs are.
+#![tactic(auto)]
+
+mod gate;
+mod stmt;
+
+pub use gate::{Entry, Gate};
+pub use stmt::{Guard, Stmt};
