@@ -1,0 +1,4 @@
+pub mod PieceLaws
+pub mod CallLaws
+pub mod HeadLaws
+pub mod CallsLaws
