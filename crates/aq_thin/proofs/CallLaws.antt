@@ -9,7 +9,8 @@ use Rattle.aq_thin.specs.declared.program.Called.TheVariants as called
 use Rattle.aq_thin.specs.Pieces.{begins_word, ends_word, Piece, Pieces, numeral_value}
 use Rattle.aq_thin.specs.Programs.{name_text, IsSingle, IsControlled, IsCall, IsCallOf}
 use Rattle.aq_thin.specs.Reading.{behind_blanks, text_in, text_at, texts_at, numeral_at, name_at, with_name, or_else, spot_at, below, closed_spot, operands, single, apart, controlled_end, controlled, call_at}
-use Rattle.aq_thin.proofs.PieceLaws.{is_solid, found_text, text_found, found_texts, texts_found, found_numeral, numeral_found, FoundNumeral, front_is, some_then}
+use Rattle.aq_thin.specs.Pieces.{is_solid}
+use Rattle.aq_thin.proofs.PieceLaws.{found_text, text_found, found_texts, texts_found, found_numeral, numeral_found, FoundNumeral, front_is, some_then}
 
 -- the name that a call begins with
 abbrev pub called_text : Called → List ℕ
@@ -43,12 +44,27 @@ named_here c d bytes rest e =
 -- a name that is found stands there
 pub name_found : (d : Called) (bytes rest : List ℕ) → name_at bytes ≡ Some (d, rest) → Piece (called_text d) bytes rest
 name_found d bytes rest e =
-    elim (some_or _ _ (d, rest) e) [ inl x ↦ named_here (called.Single name.X) d bytes rest x | inr e1 ↦
-    elim (some_or _ _ (d, rest) e1) [ inl x ↦ named_here (called.Single name.H) d bytes rest x | inr e2 ↦
-    elim (some_or _ _ (d, rest) e2) [ inl x ↦ named_here (called.Single name.Z) d bytes rest x | inr e3 ↦
-    elim (some_or _ _ (d, rest) e3) [ inl x ↦ named_here (called.Single name.S) d bytes rest x | inr e4 ↦
-    elim (some_or _ _ (d, rest) e4) [ inl x ↦ named_here (called.Single name.T) d bytes rest x | inr e5 ↦
-    named_here called.ControlledX d bytes rest e5 ] ] ] ] ]
+    elim (some_or _ _ (d, rest) e) [
+      | inl x ↦ named_here (called.Single name.X) d bytes rest x
+      | inr e1 ↦
+          elim (some_or _ _ (d, rest) e1) [
+            | inl x ↦ named_here (called.Single name.H) d bytes rest x
+            | inr e2 ↦
+                elim (some_or _ _ (d, rest) e2) [
+                  | inl x ↦ named_here (called.Single name.Z) d bytes rest x
+                  | inr e3 ↦
+                      elim (some_or _ _ (d, rest) e3) [
+                        | inl x ↦ named_here (called.Single name.S) d bytes rest x
+                        | inr e4 ↦
+                            elim (some_or _ _ (d, rest) e4) [
+                              | inl x ↦ named_here (called.Single name.T) d bytes rest x
+                              | inr e5 ↦
+                                  named_here called.ControlledX d bytes rest e5
+                            ]
+                      ]
+                ]
+          ]
+    ]
 
 -- `q[i]` as it stands in the bytes
 pub record IsSpot (n i : ℕ) (bytes rest : List ℕ) : Type 0 where
@@ -131,7 +147,10 @@ parted n control call bytes rest s =
     let q = p.2 in let r = q.2 in let t = r.2 in let u = t.2 in let v = u.2 in
     let q2 = v.2 in let r2 = q2.2 in let t2 = r2.2 in let u2 = t2.2 in let v2 = u2.2 in
     record {
-      behind = p.0; first = u.0; comma = v.0; second = u2.0;
+      behind = p.0;
+      first = u.0;
+      comma = v.0;
+      second = u2.0;
       name_is = p.1;
       control_is = record { spot = s.from; opened = r.0; closed = t.0; opens = (q.0, q.1, (r.0, r.1, refl)); number = t.1; written = s.control_written; closes = u.1; within = s.control_within };
       comma_is = v.1;
@@ -207,8 +226,12 @@ controlled_pieces : (n control target : ℕ) (bytes rest : List ℕ) → Parted 
 controlled_pieces n control target bytes rest w h = record {
   from = w.control_is.spot;
   to = w.target_is.spot;
-  pieces = (w.behind, w.name_is, spot_opens n control w.behind w.first w.control_is (codes "," ∷ codes "q" ∷ codes "[" ∷ w.target_is.spot ∷ codes "]" ∷ codes ";" ∷ []) rest
-    (w.comma, w.comma_is, spot_opens n target w.comma w.second w.target_is (codes ";" ∷ []) rest (rest, w.end_is, refl)));
+  pieces = (
+    w.behind,
+    w.name_is,
+    spot_opens n control w.behind w.first w.control_is (codes "," ∷ codes "q" ∷ codes "[" ∷ w.target_is.spot ∷ codes "]" ∷ codes ";" ∷ []) rest
+        (w.comma, w.comma_is, spot_opens n target w.comma w.second w.target_is (codes ";" ∷ []) rest (rest, w.end_is, refl)),
+  );
   x = refl;
   control_written = w.control_is.written;
   target_written = w.target_is.written;
@@ -232,7 +255,10 @@ controlled_found n bytes behind rest call p e =
     let w = some_unless (s.0.0 == t.0.0) pair (call, rest) v.2 in
     subst (λ (k : ThinCall × List ℕ). IsCall n k.0 bytes k.1) w.1
     (controlled_pieces n s.0.0 t.0.0 bytes v.0 (record {
-      behind = behind; first = s.0.1; comma = u.0; second = t.0.1;
+      behind = behind;
+      first = s.0.1;
+      comma = u.0;
+      second = t.0.1;
       name_is = p;
       control_is = spot_found n s.0.0 behind s.0.1 s.1;
       comma_is = text_found (codes ",") s.0.1 u.0 u.1;

@@ -12,12 +12,13 @@ use Rattle.aq_lex.proofs.Runs.{run-whole}
 use Rattle.std.proofs.lemmas.Grind.{common_steps}
 use Rattle.std.specs.List.{prefix_len}
 use Rattle.aq_thin.specs.Reading.{behind_blanks}
-use Rattle.aq_thin.proofs.PieceLaws.{front_is, is_solid}
+use Rattle.aq_thin.specs.Pieces.{is_solid}
+use Rattle.aq_thin.proofs.PieceLaws.{front_is}
 use Rattle.aq_thin.proofs.CallLaws.{found_call, call_found, joined}
 use Rattle.aq_thin.proofs.HeadLaws.{found_head, head_found}
 
 -- a piece leaves no more than there was
-piece_leaves : (text bytes rest : List ℕ) → Piece text bytes rest → length rest + length text ≤ length bytes
+pub piece_leaves : (text bytes rest : List ℕ) → Piece text bytes rest → length rest + length text ≤ length bytes
 piece_leaves text bytes rest p = omega (arith, ap length p.parts, length-append p.gap (text ++ rest), length-append text rest)
 
 pieces_leave : (ts : List (List ℕ)) (bytes rest : List ℕ) → Pieces ts bytes rest → length rest ≤ length bytes

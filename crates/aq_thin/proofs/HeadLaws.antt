@@ -4,7 +4,8 @@ use Rattle.aq_lex.proofs.Runs.{both, is_and}
 use Rattle.aq_thin.specs.Pieces.{Piece, Pieces, numeral_value}
 use Rattle.aq_thin.specs.Programs.{Optional, IsHead}
 use Rattle.aq_thin.specs.Reading.{text_at, texts_at, numeral_at, optional_at, optional_from, in_limits, declaration_at, behind_opening, head_at}
-use Rattle.aq_thin.proofs.PieceLaws.{found_text, text_found, found_texts, texts_found, found_numeral, numeral_found, front_is, some_then, is_solid}
+use Rattle.aq_thin.specs.Pieces.{is_solid}
+use Rattle.aq_thin.proofs.PieceLaws.{found_text, text_found, found_texts, texts_found, found_numeral, numeral_found, front_is, some_then}
 use Rattle.aq_thin.proofs.CallLaws.{is_below, below_is, some_if_pair}
 use Rattle.std.specs.List.{list_all}
 
@@ -83,9 +84,9 @@ pub found_head : (n : ℕ) (bytes rest : List ℕ) → IsHead n bytes rest → h
 found_head n bytes rest h =
     let d = h.declaration in
     rw (found_optional (codes "OPENQASM") version_texts bytes h.behind_version refl refl
-      (λ e. no_version bytes h.behind_include d.0 include_texts (subst (λ (b : List ℕ). Optional (codes "include" ∷ include_texts) b h.behind_include) (sym e) h.includes) d.1) h.version)
+    (λ e. no_version bytes h.behind_include d.0 include_texts (subst (λ (b : List ℕ). Optional (codes "include" ∷ include_texts) b h.behind_include) (sym e) h.includes) d.1) h.version)
     (rw (found_optional (codes "include") include_texts h.behind_version h.behind_include refl refl
-      (λ e. other_include h.behind_version d.0 (subst (λ (b : List ℕ). Piece (codes "qubit") b d.0) (sym e) d.1)) h.includes)
+    (λ e. other_include h.behind_version d.0 (subst (λ (b : List ℕ). Piece (codes "qubit") b d.0) (sym e) d.1)) h.includes)
     (found_declaration n h.behind_include rest (record { size = h.size; pieces = d; written = h.written; some = h.some; few = h.few })))
 
 pub head_found : (n : ℕ) (bytes rest : List ℕ) → head_at bytes ≡ Some (n, rest) → IsHead n bytes rest

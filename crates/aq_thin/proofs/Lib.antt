@@ -2,3 +2,5 @@ pub mod PieceLaws
 pub mod CallLaws
 pub mod HeadLaws
 pub mod CallsLaws
+pub mod SetLaws
+pub mod ClaimLaws

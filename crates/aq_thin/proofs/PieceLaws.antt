@@ -1,5 +1,5 @@
 -- A piece stands where the reader finds it.
-use Rattle.std.proofs.Common.{◌≡◌, ℕ, ◌+◌, ◌*◌, if◌then◌else◌,  ◌-◌, ◌≤◌, Bool, true, false, ◌&&◌, ◌||◌, not, List, [], ◌∷◌, ◌++◌, length, take, drop, Option, Some, None, refl, ap, sym, ◌∙◌, subst, arith, cond, option_and_then, length-append, append_assoc}
+use Rattle.std.proofs.Common.{◌≡◌, ℕ, ◌+◌, ◌*◌, if◌then◌else◌, ◌-◌, ◌≤◌, Bool, true, false, ◌&&◌, ◌||◌, not, List, [], ◌∷◌, ◌++◌, length, take, drop, Option, Some, None, refl, ap, sym, ◌∙◌, subst, arith, cond, option_and_then, length-append, append_assoc}
 use Rattle.std.specs.List.{prefix_len, list_all}
 use Rattle.std.specs.Str.{bytes_eq}
 use Rattle.std.proofs.lemmas.Slice.Eq.{bytes_eq-Decides}
@@ -8,7 +8,7 @@ use Rattle.std.proofs.lemmas.List.{append-nil}
 use Rattle.std.proofs.lemmas.Bool.Decides.{nat_tests}
 use Rattle.aq_lex.specs.Bytes.{is_blank, is_word, is_digit, is_letter}
 use Rattle.aq_lex.proofs.Runs.{both, one_take, run-stop, run-all, run-within, run-whole}
-use Rattle.aq_thin.specs.Pieces.{begins_word, ends_word, Piece, Pieces, numeral_value}
+use Rattle.aq_thin.specs.Pieces.{begins_word, ends_word, is_solid, Piece, Pieces, numeral_value}
 use Rattle.aq_thin.specs.Reading.{behind_blanks, text_in, text_at, texts_at, numeral_at, numeral_in, word_len, with_rest}
 
 -- the first byte passes the test
@@ -16,22 +16,17 @@ abbrev pub begins_with : (ℕ → Bool) → List ℕ → Bool
 begins_with p [] = false
 begins_with p (b ∷ bs) = p b
 
--- a text begins, and not with a blank
-abbrev pub is_solid : List ℕ → Bool
-is_solid [] = false
-is_solid (b ∷ bs) = not (is_blank b)
-
 not_true : (b : Bool) → not b ≡ true → b ≡ false
 not_true true e = cc
 not_true false e = refl
 
-drop_front : (xs ys : List ℕ) → drop (length xs) (xs ++ ys) ≡ ys
+pub drop_front : (xs ys : List ℕ) → drop (length xs) (xs ++ ys) ≡ ys
 drop_front xs ys = grind (arith, common_steps)
 
-take_front : (xs ys : List ℕ) → take (length xs) (xs ++ ys) ≡ xs
+pub take_front : (xs ys : List ℕ) → take (length xs) (xs ++ ys) ≡ xs
 take_front xs ys = grind (arith, common_steps)
 
-take_drop : (n : ℕ) (xs : List ℕ) → take n xs ++ drop n xs ≡ xs
+pub take_drop : (n : ℕ) (xs : List ℕ) → take n xs ++ drop n xs ≡ xs
 take_drop n xs = grind (arith, common_steps)
 
 pub bytes_eq_same : (xs : List ℕ) → bytes_eq xs xs ≡ true
@@ -75,7 +70,7 @@ text_found text bytes rest e =
     record {
       gap = take (prefix_len is_blank bytes) bytes;
       parts = sym (take_drop (prefix_len is_blank bytes) bytes)
-        ∙ ap (λ f. take (prefix_len is_blank bytes) bytes ++ f) (front_parts text front cases.0 ∙ ap (λ r. text ++ r) cases.2);
+          ∙ ap (λ f. take (prefix_len is_blank bytes) bytes ++ f) (front_parts text front cases.0 ∙ ap (λ r. text ++ r) cases.2);
       blank = run-all is_blank bytes;
       whole = subst (λ (r : List ℕ). ends_word text && begins_word r ≡ false) cases.2 cases.1;
     }
@@ -176,7 +171,7 @@ numeral_found bytes rest k e =
       piece = record {
         gap = take (prefix_len is_blank bytes) bytes;
         parts = sym (take_drop (prefix_len is_blank bytes) bytes)
-          ∙ ap (λ f. take (prefix_len is_blank bytes) bytes ++ f) (sym (take_drop n front) ∙ ap (λ r. take n front ++ r) s.1);
+            ∙ ap (λ f. take (prefix_len is_blank bytes) bytes ++ f) (sym (take_drop n front) ∙ ap (λ r. take n front ++ r) s.1);
         blank = run-all is_blank bytes;
         whole = rw is.last apart;
       };

@@ -2,7 +2,7 @@
 --
 -- This is how a text without comments is cut into tokens, where each token is as long as possible: a word isn't followed
 -- by a letter, a digit or `_`.
-use Rattle.std.specs.Prelude.{◌≡◌, ℕ, ◌+◌, ◌*◌, ◌-◌, Bool, true, false, ◌&&◌, List, [], ◌∷◌, ◌++◌, Option, Some, None, if◌then◌else◌}
+use Rattle.std.specs.Prelude.{◌≡◌, ℕ, ◌+◌, ◌*◌, ◌-◌, Bool, true, false, ◌&&◌, not, List, [], ◌∷◌, ◌++◌, Option, Some, None, if◌then◌else◌}
 use Rattle.std.specs.List.{list_all}
 use Rattle.aq_lex.specs.Bytes.{is_blank, is_word, is_digit}
 
@@ -16,6 +16,11 @@ abbrev pub ends_word : List ℕ → Bool
 ends_word [] = false
 ends_word (b ∷ []) = is_word b
 ends_word (b ∷ c ∷ bs) = ends_word (c ∷ bs)
+
+-- a text begins, and not with a blank
+abbrev pub is_solid : List ℕ → Bool
+is_solid [] = false
+is_solid (b ∷ bs) = not (is_blank b)
 
 -- The text stands at the front of the bytes behind blanks, as a token, and the rest is behind it.
 pub record Piece (text bytes rest : List ℕ) : Type 0 where

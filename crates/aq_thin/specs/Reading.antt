@@ -4,6 +4,9 @@ use Rattle.std.specs.List.{prefix_len, list_all}
 use Rattle.std.specs.Str.{bytes_eq}
 use Rattle.aq_lex.specs.Bytes.{is_blank, is_word}
 use Rattle.aq_thin.specs.Pieces.{begins_word, ends_word, numeral_value}
+use Rattle.aq_lex.specs.Bytes.{begins}
+use Rattle.aq_thin.specs.SetTexts.{is_binary, binary_after}
+use Rattle.aq_thin.specs.declared.term.ThinTerm.{ThinTerm}
 use Rattle.aq_thin.specs.declared.call.ThinName.TheVariants as name
 use Rattle.aq_thin.specs.declared.call.ThinName.{ThinName}
 use Rattle.aq_thin.specs.declared.call.ThinCall.{ThinCall}
@@ -29,6 +32,10 @@ text_at text bytes = text_in text (behind_blanks bytes)
 abbrev pub texts_at : List (List ℕ) → List ℕ → Option (List ℕ)
 texts_at [] bytes = Some bytes
 texts_at (t ∷ ts) bytes = option_and_then (texts_at ts) (text_at t bytes)
+
+-- what opens a claim
+abbrev pub opening : List ℕ → List (List ℕ)
+opening name = codes "claim" ∷ name ∷ codes "=" ∷ codes "[" ∷ []
 
 abbrev pub word_len : List ℕ → ℕ
 word_len front = prefix_len is_word front
@@ -119,3 +126,30 @@ behind_opening bytes =
 -- the number of qubits and the calls behind it
 abbrev pub head_at : List ℕ → Option (ℕ × List ℕ)
 head_at bytes = option_and_then declaration_at (behind_opening bytes)
+
+-- a ket of n digits at the very front, as its index and what stands behind it
+abbrev pub ket_in : ℕ → List ℕ → Option (ℕ × List ℕ)
+ket_in n [] = None
+ket_in n (b ∷ bs) =
+    if b == 124 && prefix_len is_binary bs == n && begins 62 (drop n bs)
+    then Some (binary_after 0 (take n bs), drop (n + 1) bs)
+    else None
+
+abbrev pub ket_at : ℕ → List ℕ → Option (ℕ × List ℕ)
+ket_at n bytes = ket_in n (behind_blanks bytes)
+
+abbrev pub signed : Bool → Option (ℕ × List ℕ) → Option (ThinTerm × List ℕ)
+signed minus None = None
+signed minus (Some found) = Some (record { minus = minus; index = found.0 }, found.1)
+
+abbrev pub signed_from : ℕ → Option (List ℕ) → Option (List ℕ) → Option (ThinTerm × List ℕ)
+signed_from n (Some rest) plus = signed true (ket_at n rest)
+signed_from n None plus = signed false (option_and_then (ket_at n) plus)
+
+-- a sign and a ket
+abbrev pub signed_at : ℕ → List ℕ → Option (ThinTerm × List ℕ)
+signed_at n bytes = signed_from n (text_at (codes "-") bytes) (text_at (codes "+") bytes)
+
+-- the first ket with its sign, if it has one
+abbrev pub first_at : ℕ → List ℕ → Option (ThinTerm × List ℕ)
+first_at n bytes = signed_from n (text_at (codes "-") bytes) (Some bytes)

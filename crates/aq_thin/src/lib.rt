@@ -4,11 +4,13 @@
 mod call;
 mod fault;
 mod program;
-mod thin_program;
 mod scan;
 mod term;
+mod thin_program;
+mod thin_sets;
 
 pub use call::{ThinCall, ThinName};
 pub use fault::ThinFault;
-pub use thin_program::{ThinProgram, read_program};
 pub use term::ThinTerm;
+pub use thin_program::{ThinProgram, read_program};
+pub use thin_sets::{ThinSets, read_sets};

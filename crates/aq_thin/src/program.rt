@@ -11,7 +11,6 @@ pub enum Called {
     ControlledX,
 }
 
-
 fn name_at<'a>(bytes: &'a [u8]) -> Option<(Called, &'a [u8])>
     ensures { option_map (λ found. (found.0, found.1.now)) result ≡ name_at bytes.entry.now }
 {
@@ -43,7 +42,11 @@ fn spot_at<'a>(qubits: u32, bytes: &'a [u8]) -> Option<(u32, &'a [u8])>
     let rest = texts_at(&[b"q".as_slice(), b"[".as_slice()], bytes)?;
     let (index, rest) = numeral_at(rest)?;
     let rest = text_at(b"]", rest)?;
-    if index < qubits { Some((index, rest)) } else { None }
+    if index < qubits {
+        Some((index, rest))
+    } else {
+        None
+    }
 }
 
 fn operands<'a>(qubits: u32, called: Called, bytes: &'a [u8]) -> Option<(ThinCall, &'a [u8])>
@@ -113,7 +116,11 @@ fn declaration_at<'a>(bytes: &'a [u8]) -> Option<(u32, &'a [u8])>
     let rest = texts_at(&[b"qubit".as_slice(), b"[".as_slice()], bytes)?;
     let (qubits, rest) = numeral_at(rest)?;
     let rest = texts_at(&[b"]".as_slice(), b"q".as_slice(), b";".as_slice()], rest)?;
-    if qubits > 0 && qubits < 17 { Some((qubits, rest)) } else { None }
+    if qubits > 0 && qubits < 17 {
+        Some((qubits, rest))
+    } else {
+        None
+    }
 }
 
 ghost use Rattle.aq_thin.specs.Reading.{behind_opening};
@@ -123,7 +130,11 @@ fn behind_opening<'a>(bytes: &'a [u8]) -> Option<&'a [u8]>
     ensures { option_map (λ rest. rest.now) result ≡ behind_opening bytes.entry.now }
 {
     let rest = optional_at(b"OPENQASM", &[b"3.0".as_slice(), b";".as_slice()], bytes)?;
-    optional_at(b"include", &[b"\"stdgates.inc\"".as_slice(), b";".as_slice()], rest)
+    optional_at(
+        b"include",
+        &[b"\"stdgates.inc\"".as_slice(), b";".as_slice()],
+        rest,
+    )
 }
 
 /// What stands before the calls, as the number of qubits, and the calls behind it.

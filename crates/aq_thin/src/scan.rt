@@ -19,7 +19,10 @@ pub(crate) fn is_digit(byte: u8) -> bool
 pub(crate) fn is_word(byte: u8) -> bool
     ensures { result ≡ is_word byte }
 {
-    (byte >= b'a' && byte <= b'z') || (byte >= b'A' && byte <= b'Z') || byte == b'_' || is_digit(byte)
+    (byte >= b'a' && byte <= b'z')
+        || (byte >= b'A' && byte <= b'Z')
+        || byte == b'_'
+        || is_digit(byte)
 }
 
 fn begins_word(bytes: &[u8]) -> bool
@@ -42,7 +45,7 @@ fn ends_word(bytes: &[u8]) -> bool
 }
 
 /// The bytes without the first `count`.
-fn rest_from(bytes: &[u8], count: usize) -> &[u8]
+pub(crate) fn rest_from(bytes: &[u8], count: usize) -> &[u8]
     requires { count ≤ length bytes.now }
     ensures { result.now ≡ drop count bytes.now }
 {
@@ -123,4 +126,18 @@ pub(crate) fn is_end(bytes: &[u8]) -> bool
     ensures { result ≡ list_all is_blank bytes.now }
 {
     bytes.iter().all(|b| is_blank(*b))
+}
+
+ghost use Rattle.std.specs.Prelude.{true};
+ghost use Rattle.aq_lex.specs.Bytes.{begins};
+
+/// Whether the bytes begin with this one.
+pub(crate) fn begins(byte: u8, bytes: &[u8]) -> bool
+    ensures value { result ≡ begins byte bytes.now }
+    ensures some { result ≡ true → 0 < length bytes.now }
+{
+    match bytes {
+        [] => false,
+        [first, ..] => *first == byte,
+    }
 }

@@ -1,0 +1,18 @@
+use Rattle.std.proofs.Common.{◌≡◌, ℕ, List, sym, ◌∙◌}
+use Rattle.std.proofs.lemmas.Result.{err_from_is_err_and}
+use Rattle.aq_thin.specs.declared.term.ThinTerm.{ThinTerm}
+use Rattle.aq_thin.proofs.ClaimLaws.{no_before, no_after, more_behind}
+use Rattle.aq_thin.proofs.thin_sets.read_sets.Goals as goal
+
+pub returns-in_err-before-clause-not_thin : goal.returns-in_err-before-clause-not_thin
+returns-in_err-before-clause-not_thin c =
+    let p = err_from_is_err_and c.from_residual.result c.from_residual.ensures.1 in
+    rw (p.1, p.2) (λ h ts us t. no_before _ _ ts us (c.in_err-before.ensures.not_thin h) t)
+
+pub returns-in_err-after-clause-not_thin : goal.returns-in_err-after-clause-not_thin
+returns-in_err-after-clause-not_thin c =
+    let p = err_from_is_err_and c.from_residual-in_err-after.result c.from_residual-in_err-after.ensures.1 in
+    rw (p.1, p.2) (λ h ts us t. no_after _ _ _ _ ts us c.in_ok-before.ensures.thin (c.in_err-after.ensures.not_thin h) t)
+
+pub returns-then-not-is_end-clause-not_thin : goal.returns-then-not-is_end-clause-not_thin
+returns-then-not-is_end-clause-not_thin c = λ _ ts us t. more_behind _ _ _ _ _ _ ts us c.in_ok-before.ensures.thin c.in_ok-after.ensures.thin (sym c.is_end.ensures ∙ c.if-not-is_end.true) t
