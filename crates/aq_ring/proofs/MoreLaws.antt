@@ -1,9 +1,9 @@
 -- Turns add up, turns and quotients are products, and both keep what isn't zero.
-use Rattle.std.proofs.Common.{◌≡◌, ◌≢◌, ℕ, zero, suc, ◌+◌, ◌*◌, sym, ap, ◌∙◌, arith}
-use Rattle.aq_ring.proofs.AmplitudeLaws.{one_lowest_form, num_at-turn, turn-power, turn-product, quotient_product, product-one, product-zero, product_comm, turn-eight, zero_num, lowest_zero}
+use Rattle.std.proofs.Common.{⊎_elim, ◌≡◌, ◌≢◌, ℕ, zero, suc, ◌+◌, ◌*◌, sym, ap, ◌∙◌, arith}
+use Rattle.aq_ring.proofs.AmplitudeLaws.{one_lowest_form, num_at-turn, turn-power, turn-product, quotient_product, product-one, product-zero, product_comm, turn-eight, sum-zero, sum_comm, sum_assoc, sum-opposite, product_sum, product_without_zero, zero_num, lowest_zero}
 use Rattle.aq_ring.specs.Quads.{Quad, turned, turned_by}
 use Rattle.aq_ring.specs.Fractions.{Amplitude}
-use Rattle.aq_ring.specs.Amplitudes.{product, turn, quotient, amplitude_zero, amplitude_one}
+use Rattle.aq_ring.specs.Amplitudes.{sum, product, turn, quotient, amplitude_zero, amplitude_one}
 
 turned_by-add : (i j : ℕ) (x : Quad) → turned_by i (turned_by j x) ≡ turned_by (i + j) x
 unfolding turned_by
@@ -58,3 +58,14 @@ product-zero_right s = product_comm _ _ ∙ product-zero s
 
 pub product-one_right : (s : Amplitude) → product s amplitude_one ≡ s
 product-one_right s = product_comm _ _ ∙ product-one s
+
+-- ---- a nonzero factor cancels
+same_from_difference : (p q : Amplitude) → sum p (turn 4 q) ≡ amplitude_zero → p ≡ q
+same_from_difference p q e =
+    sym (sum-zero p) ∙ sum_comm _ _ ∙ ap (sum p) (sym (sum_comm _ _ ∙ sum-opposite q)) ∙ sym (sum_assoc p (turn 4 q) q) ∙ ap (λ r. sum r q) e ∙ sum-zero q
+
+pub product-cancel : (s p q : Amplitude) → s ≢ amplitude_zero → product s p ≡ product s q → p ≡ q
+product-cancel s p q h e =
+    let none : product s (sum p (turn 4 q)) ≡ amplitude_zero =
+    product_sum s p (turn 4 q) ∙ (λ i. sum (e i) (product-turn s 4 q i)) ∙ sum-opposite (product s q) in
+    ⊎_elim (λ z. absurd (h z)) (same_from_difference p q) (product_without_zero s _ none)

@@ -6,7 +6,7 @@ use Rattle.aq_ring.specs.Fractions.{Amplitude}
 use Rattle.aq_ring.specs.Amplitudes.{lowest_form, sum, product, turn, quotient, amplitude_zero, amplitude_one}
 use Rattle.aq_ring.specs.Vectors.{IsZeroVector, Proportional}
 
--- the amplitudes are a commutative ring, in which four turns give the opposite
+-- the amplitudes are a commutative ring, in which four turns give the opposite and nonzero factors cancel
 pub record RingLaws : Type 0 where
   pub sum_commutative : (p q : Amplitude) → sum p q ≡ sum q p
   pub sum_associative : (p q r : Amplitude) → sum (sum p q) r ≡ sum p (sum q r)
@@ -17,6 +17,7 @@ pub record RingLaws : Type 0 where
   pub product_one : (p : Amplitude) → product amplitude_one p ≡ p
   pub product_zero : (p : Amplitude) → product amplitude_zero p ≡ amplitude_zero
   pub product_of_sum : (p q r : Amplitude) → product p (sum q r) ≡ sum (product p q) (product p r)
+  pub factor_cancels : (s p q : Amplitude) → s ≢ amplitude_zero → product s p ≡ product s q → p ≡ q
 
 -- a product is zero only where a factor is
 abbrev pub NoZeroDivisors : Type 0
