@@ -6,6 +6,7 @@ use native.Mathlib.Nat.{mul-le-mul}
 use Rattle.aq_ring.proofs.Ints.{spread, linear}
 use Rattle.aq_ring.proofs.QuadLaws.{same_quad, quad_product_assoc, quad_product_comm, quad_product_zero}
 use Rattle.aq_ring.specs.Quads.{Quad, quad_zero, quad_product}
+use Rattle.aq_ring.specs.Norms.{conjugate, with_root, norm_whole, norm_root}
 
 -- ---- sqrt(2) is no quotient of whole numbers
 odd : (s h k : ℕ) → 2 * k ≡ 4 * s + 4 * h + 1 → ⊥
@@ -51,21 +52,6 @@ square_is : (z : ℤ) → z *ℤ z ≡ pos (unsigned_abs z * unsigned_abs z)
 square_is (pos n) = refl
 square_is (negsuc n) = refl
 
--- the complex conjugate
-abbrev pub conjugate : Quad → Quad
-conjugate x = record { a = x.a; b = neg_ℤ x.d; c = neg_ℤ x.c; d = neg_ℤ x.b }
-
--- |x|^2 = norm_whole x + norm_root x * sqrt(2)
-abbrev pub norm_whole : Quad → ℤ
-norm_whole x = x.a *ℤ x.a +ℤ x.b *ℤ x.b +ℤ x.c *ℤ x.c +ℤ x.d *ℤ x.d
-
-abbrev pub norm_root : Quad → ℤ
-norm_root x = x.a *ℤ x.b +ℤ x.b *ℤ x.c +ℤ x.c *ℤ x.d -ℤ x.a *ℤ x.d
-
--- s + t*sqrt(2)
-abbrev pub with_root : ℤ → ℤ → Quad
-with_root s t = record { a = s; b = t; c = pos 0; d = neg_ℤ t }
-
 pub norm_is : (x : Quad) → quad_product (conjugate x) x ≡ with_root (norm_whole x) (norm_root x)
 unfolding quad_product
 norm_is x = same_quad _ _ (simp spread (omega (arith, ints))) (simp spread (omega (arith, ints))) (simp spread (omega (arith, ints))) (simp spread (omega (arith, ints)))
@@ -107,12 +93,12 @@ squares_zero k l m n e = (no_square k (omega arith), no_square l (omega arith), 
 whole_is : (x : Quad) → norm_whole x ≡ pos (unsigned_abs x.a * unsigned_abs x.a + unsigned_abs x.b * unsigned_abs x.b + unsigned_abs x.c * unsigned_abs x.c + unsigned_abs x.d * unsigned_abs x.d)
 whole_is x = rw (square_is x.a, square_is x.b, square_is x.c, square_is x.d) refl
 
-whole_zero : (x : Quad) → norm_whole x ≡ pos 0 → x ≡ quad_zero
+pub whole_zero : (x : Quad) → norm_whole x ≡ pos 0 → x ≡ quad_zero
 whole_zero x e =
     let z = squares_zero (unsigned_abs x.a) (unsigned_abs x.b) (unsigned_abs x.c) (unsigned_abs x.d) (ap unsigned_abs (sym (whole_is x) ∙ e)) in
     same_quad _ _ (abs_zero x.a z.0) (abs_zero x.b z.1) (abs_zero x.c z.2) (abs_zero x.d z.3)
 
--- S^2 = 2*T^2 forces S = 0
+-- s^2 = 2*t^2 forces s = 0
 whole_root : (s t : ℤ) → s *ℤ s -ℤ (t *ℤ t +ℤ t *ℤ t) ≡ pos 0 → s ≡ pos 0
 whole_root s t e =
     let k = unsigned_abs s in let l = unsigned_abs t in
@@ -134,3 +120,7 @@ no_zero_divisors x y e =
     by : (n : ℤ) → quad_product (with_root n (pos 0)) y ≡ quad_zero → n ≡ norm_whole x *ℤ norm_whole x -ℤ (norm_root x *ℤ norm_root x +ℤ norm_root x *ℤ norm_root x) → (unsigned_abs n ≡ 0) ⊎ (unsigned_abs n ≡ 0 → ⊥) → (x ≡ quad_zero) ⊎ (y ≡ quad_zero)
     by n f is (inl z) = inl (whole_zero x (whole_root (norm_whole x) (norm_root x) (sym is ∙ abs_zero n z)))
     by n f is (inr z) = inr (scalar_zero n y f (λ e. z (ap unsigned_abs e)))
+
+-- no whole number but 0 has twice a square as its square
+pub no_square_is_twice : (s t : ℤ) → s *ℤ s ≡ t *ℤ t +ℤ t *ℤ t → s ≡ pos 0
+no_square_is_twice s t e = whole_root s t (omega (arith, linear))

@@ -1,4 +1,4 @@
--- Four answers as one.
+-- Four answers as one answer.
 use Rattle.std.specs.Prelude.{Option, Some, None, ℤ}
 use Rattle.aq_ring.specs.Quads.{Quad, quad}
 

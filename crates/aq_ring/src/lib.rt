@@ -1,4 +1,5 @@
-//! Exact amplitudes: the numbers `(a + b*w + c*w^2 + d*w^3) / sqrt(2)^k` with `w^4 = -1`, in lowest form.
+//! Exact amplitudes of quantum states: the numbers `(a + b*w + c*w^2 + d*w^3) / sqrt(2)^k`, where `w` is the eighth root
+//! of unity `exp(i*pi/4)`. A contract sees the number with unbounded integers, and says when it fits the machine's.
 #![tactic(auto)]
 
 ghost use Rattle.std.specs.Prelude.{◌≡◌, ◌<◌, ◌+◌, ◌^◌, ◌↔◌, IsTrue, ◌∷◌, []};
@@ -9,11 +10,14 @@ ghost use Rattle.aq_ring.specs.Amplitudes.{lowest_form, amplitude_zero, amplitud
 mod coefficient;
 pub mod laws;
 mod quad;
+#[cfg(test)]
+mod tests;
 
 use quad::Quad;
 use std::marker::Model;
 
-/// An exact amplitude, always in lowest form. A contract sees the numerator and the power of `sqrt(2)`.
+/// An exact amplitude, always in lowest form, so equal numbers are equal values. A contract sees the numerator and the
+/// power of `sqrt(2)`. A coefficient lies in `-(2^127 - 1) ..= 2^127 - 1` and the power in `0 ..= 2^32 - 1`.
 #[derive(Clone, Copy, Debug, PartialEq, Eq, Hash)]
 pub struct Amp {
     num: Quad,
@@ -57,6 +61,7 @@ impl Amp {
         Some(lowest(Quad::new(a, b, c, d)?, power))
     }
 
+    /// 0, which is `0 / sqrt(2)^0`.
     pub fn zero() -> Amp
         ensures { result ≡ amplitude_zero }
     {
@@ -66,6 +71,7 @@ impl Amp {
         }
     }
 
+    /// 1.
     pub fn one() -> Amp
         ensures { result ≡ amplitude_one }
     {
@@ -75,6 +81,7 @@ impl Amp {
         }
     }
 
+    /// The numerator's coefficients of 1, `w`, `w^2` and `w^3`, in this order.
     pub fn coefs(self) -> [i128; 4]
         ensures value { result ≡ self.num.a ∷ self.num.b ∷ self.num.c ∷ self.num.d ∷ [] }
         ensures range { IsInRange self.num }
@@ -82,19 +89,21 @@ impl Amp {
         self.num.coefficients()
     }
 
+    /// The power of `sqrt(2)` in the denominator.
     pub fn power(self) -> u32
         ensures { result ≡ self.power }
     {
         self.power
     }
 
+    /// Whether the number is 0.
     pub fn is_zero(self) -> bool
         ensures { IsTrue result ↔ (self ≡ amplitude_zero) }
     {
         self.num.is_zero()
     }
 
-    /// The number times `w^j`.
+    /// The number times `w^j`, for a `j` below 8. It always fits.
     pub fn turn(self, j: u8) -> Amp
         requires { j < 8 }
         ensures { result ≡ turn j self }
@@ -109,7 +118,8 @@ impl Amp {
         }
     }
 
-    /// None exactly where the sum doesn't fit.
+    /// The sum. None exactly where it doesn't fit: where neither operand is zero, and a coefficient of an operand over
+    /// the greater of the two powers, or of the sum over that power, is out of range.
     pub fn sum(self, other: Amp) -> Option<Amp>
         ensures { SomeIff result (FitsSum self other) (sum self other) }
     {
@@ -122,6 +132,7 @@ impl Amp {
         self.sum_of_nonzero(other)
     }
 
+    /// None exactly where the sum over the greater power is out of range.
     fn sum_of_nonzero(self, other: Amp) -> Option<Amp>
         ensures { SomeIff result (IsSumInRange self other) (sum self other) }
     {
@@ -131,7 +142,9 @@ impl Amp {
         Some(lowest(left.sum(right)?, power))
     }
 
-    /// None exactly where the product doesn't fit.
+    /// The product of `self`, the left operand, with the right one. None exactly where it doesn't fit: where one of the
+    /// sixteen products of coefficients is out of range, or one of their sums on the way from left to right, or where
+    /// the powers add up to `2^32` or more.
     pub fn product(self, other: Amp) -> Option<Amp>
         ensures { SomeIff result (FitsAmplitudeProduct self other) (product self other) }
     {
@@ -139,51 +152,10 @@ impl Amp {
         Some(lowest(self.num.product(other.num)?, power))
     }
 
-    /// The quotient by `sqrt(2)`. None exactly where it doesn't fit.
+    /// The quotient by `sqrt(2)`. None exactly where its power is out of range.
     pub fn over_root(self) -> Option<Amp>
         ensures { SomeIff result (FitsQuotient self) (quotient self) }
     {
         Some(lowest(self.num, self.power.checked_add(1)?))
-    }
-}
-
-#[cfg(test)]
-mod tests {
-    use super::Amp;
-    use std::test::Fail;
-
-    const MAX: i128 = i128::MAX;
-
-    fn made(coefs: [i128; 4], power: u32) -> Result<Amp, Fail> {
-        Ok(Amp::from_parts(coefs, power).ok_or("out of range")?)
-    }
-
-    #[test]
-    fn sums_of_halves_and_roots(rt: HostRuntime) -> Result<(), Fail> {
-        let root = made([1, 0, 0, 0], 1)?;
-        let sum = root.sum(root).ok_or("sum")?;
-        assert_eq!(rt; sum.coefs(), [0, 1, 0, -1]);
-        assert_eq!(rt; sum.power(), 0);
-        let half = root.product(root).ok_or("product")?;
-        assert_eq!(rt; half.coefs(), [1, 0, 0, 0]);
-        assert_eq!(rt; half.power(), 2);
-        assert_eq!(rt; half.sum(half).ok_or("sum")?, Amp::one());
-        assert_eq!(rt; Amp::one().over_root().ok_or("quotient")?, root);
-        assert_eq!(rt; root.sum(root.turn(4)).ok_or("sum")?, Amp::zero());
-        Ok(())
-    }
-
-    #[test]
-    fn what_does_not_fit(rt: HostRuntime) -> Result<(), Fail> {
-        assert_eq!(rt; Amp::from_parts([i128::MIN, 0, 0, 0], 0).is_none(), true);
-        let large = made([MAX, 0, 0, 0], 0)?;
-        assert_eq!(rt; large.sum(large).is_none(), true);
-        assert_eq!(rt; large.product(large).is_none(), true);
-        let deep = made([1, 0, 0, 0], u32::MAX)?;
-        assert_eq!(rt; deep.over_root().is_none(), true);
-        assert_eq!(rt; deep.sum(Amp::one()).is_none(), true);
-        assert_eq!(rt; deep.sum(Amp::zero()).ok_or("zero")?, deep);
-        assert_eq!(rt; made([0, 0, 0, 0], u32::MAX)?, Amp::zero());
-        Ok(())
     }
 }

@@ -1,6 +1,6 @@
 use Rattle.aq_ring.proofs.Ints.{neg_mul_ℤ}
 use Rattle.aq_ring.proofs.GatheredLemmas.{gathered-product}
-use Rattle.aq_ring.proofs.quad.Quad.product.Goals as goal
+use Rattle.aq_ring.proofs.quad.Quad.product_of_any.Goals as goal
 
 pub returns : goal.returns
 returns c =
