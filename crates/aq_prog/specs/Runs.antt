@@ -136,3 +136,8 @@ meaning n = fold-Stmt Meaning (meaning_step n)
 -- the run of statements on n qubits
 abbrev pub run : ℕ → List Stmt → Meaning
 run n body = in_order (map (meaning n) body)
+
+-- gates played in this order, each with the vector before it
+abbrev pub played_gates : ℕ → List Gate → List Amplitude → List Played
+played_gates n [] v = []
+played_gates n (gate ∷ rest) v = record { gate = gate; before = v } ∷ played_gates n rest (apply_gate n gate v)
