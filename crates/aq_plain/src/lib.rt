@@ -3,9 +3,11 @@
 
 mod apply;
 mod places;
+mod project;
 mod row;
 mod vector;
 
 pub use apply::apply_plain;
+pub use project::project_plain;
 pub use row::WideSum;
 pub use vector::Vector;

@@ -2,10 +2,11 @@
 ghost use Rattle.std.specs.Prelude.{◌≡◌, ◌↔◌, ◌<◌, ◌≤◌, ◌^◌, IfOk, IsTrue, length, replicate, slice_get, slice_set, Some};
 ghost use Rattle.aq_ring.specs.Amplitudes.{amplitude_zero};
 ghost use Rattle.aq_ring.specs.Vectors.{IsZeroVector};
-ghost use Rattle.aq_prog.specs.Gates.{apply_gate, FitsGate, IsValidGate};
+ghost use Rattle.aq_prog.specs.Gates.{apply_gate, project, FitsGate, IsValidGate};
 ghost use Rattle.aq_plain.specs.Vectors.{IsStateVector};
 
 use crate::apply::write_gate;
+use crate::project::keep_half;
 use aq_prog::Gate;
 use aq_ring::Amp;
 use std::alloc::{AllocError, Global};
@@ -63,6 +64,15 @@ impl Vector {
         ensures amps { self.new.amps ≡ apply_gate self.old.qubits gate.now self.old.amps }
     {
         write_gate(self.amps.as_mut_slice(), self.qubits, gate);
+    }
+
+    /// Makes the amplitudes zero of the kets in which the qubit has the other digit.
+    pub(crate) fn keep(&mut self, qubit: u32, outcome: bool)
+        requires { qubit < self.old.qubits }
+        ensures qubits { self.new.qubits ≡ self.old.qubits }
+        ensures amps { self.new.amps ≡ project self.old.qubits qubit outcome self.old.amps }
+    {
+        keep_half(self.amps.as_mut_slice(), self.qubits, qubit, outcome);
     }
 
     /// Puts the amplitude at the index.
