@@ -1,1 +1,3 @@
 pub mod DigitLaws
+pub mod VectorLaws
+pub mod RunLaws

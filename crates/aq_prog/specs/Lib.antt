@@ -1,3 +1,4 @@
 pub mod Digits
 pub mod Gates
 pub mod Runs
+pub mod Laws
