@@ -1,5 +1,5 @@
 -- The digits of an index, and setting one.
-use Rattle.std.proofs.Common.{◌≡◌, ◌≢◌, ◌⊎◌, ℕ, zero, suc, ◌+◌, ◌-◌, ◌*◌, ◌/◌, ◌%◌, ◌^◌, ◌<◌, ◌≤◌, List, [], ◌∷◌, ◌++◌, length, get_or, refl, sym, ap, ◌∙◌, ⊎_elim, arith}
+use Rattle.std.proofs.Common.{◌≡◌, ◌≢◌, ℕ, zero, suc, ◌+◌, ◌-◌, ◌*◌, ◌/◌, ◌%◌, ◌^◌, ◌<◌, ◌≤◌, List, [], ◌∷◌, ◌++◌, length, get_or, refl, sym, ap, ◌∙◌, ⊎_elim, arith}
 use Rattle.std.proofs.Math.Nat.{div-div-eq-div-mul, add-mul-div_left, add-mul-mod_self_left, mul-le-mul_left}
 use Rattle.std.proofs.lemmas.Nat.{div-add-mod', div-mul-add, mod-mul-add, pow-add, pow_pos}
 use Rattle.std.proofs.lemmas.Bool.{cases_lt}
@@ -126,6 +126,7 @@ digit-other n q c b x in_q in_c other h =
         let m = 2 ^ (q - c - 1) in
         let e = weights n c q l in_q in
         ap (λ u. set (weight n q) b x / u % 2) e ∙ ap (λ j. j % 2) (above (weight n q) m b x (weight-positive n q) h) ∙ ap (λ u. x / u % 2) (sym e)
+
     higher : q ≤ c → digit n c (set (weight n q) b x) ≡ digit n c x
     higher l =
         let m = 2 ^ (c - q - 1) in
@@ -143,6 +144,7 @@ get_or-tabulate (suc m) f d x h = ⊎_elim (before (get_or-tabulate m f d x)) la
   where
     before : (x < m → get_or (tabulate m f) x d ≡ f x) → x < m → get_or (tabulate m f ++ f m ∷ []) x d ≡ f x
     before same lt = get_or_append_left (tabulate m f) (f m ∷ []) d x (rw (length-tabulate m f) lt) ∙ same lt
+
     last : m ≤ x → get_or (tabulate m f ++ f m ∷ []) x d ≡ f x
     last ge =
         let e : x ≡ length (tabulate m f) = (let g : x ≡ m = omega arith in g) ∙ sym (length-tabulate m f) in

@@ -1,3 +1,4 @@
 pub mod DigitLaws
 pub mod VectorLaws
 pub mod RunLaws
+pub mod TableLaws

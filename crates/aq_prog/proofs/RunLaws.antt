@@ -1,10 +1,8 @@
 -- The run of gates alone.
 use Rattle.std.proofs.Common.{◌≡◌, ℕ, List, [], ◌∷◌, map, refl, ap, ◌∙◌}
-use Rattle.aq_prog.specs.Gates.{apply_gate}
 use Rattle.aq_prog.specs.Runs.{State, Run, Meaning, meaning, meaning_step, run, joined, then_go, in_order, played_gate}
 use Rattle.aq_prog.specs.Laws.{run_of_gates}
 use Rattle.aq_prog.specs.declared.gate.Gate.{Gate}
-use Rattle.aq_prog.specs.declared.stmt.Stmt.{Stmt}
 use Rattle.aq_prog.specs.declared.stmt.Stmt.TheVariants as stmt
 use Rattle.aq_prog.specs.declared.stmt.Stmt.TheOpen.{Stmt-F}
 use Rattle.aq_prog.specs.declared.stmt.Stmt.TheFolds.{fold-roll-Stmt}

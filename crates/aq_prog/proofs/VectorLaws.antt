@@ -1,5 +1,5 @@
 -- Gates and projections are linear, so they keep proportional vectors proportional and zero vectors zero.
-use Rattle.std.proofs.Common.{◌≡◌, ℕ, zero, suc, ◌+◌, ◌<◌, ◌≤◌, Bool, true, false, cond, eqb, List, [], ◌∷◌, ◌++◌, map, length, get_or, refl, sym, ap, ◌∙◌, ⊎_elim, arith}
+use Rattle.std.proofs.Common.{◌≡◌, ℕ, zero, suc, ◌<◌, Bool, true, false, cond, eqb, List, [], ◌∷◌, ◌++◌, map, length, refl, sym, ap, ◌∙◌, ⊎_elim}
 use Rattle.std.proofs.lemmas.List.{length-map, map-append, get_or_past}
 use Rattle.std.proofs.lemmas.Bool.{cases_lt}
 use Rattle.aq_ring.specs.Fractions.{Amplitude}
@@ -7,7 +7,7 @@ use Rattle.aq_ring.specs.Amplitudes.{amplitude_zero, sum, product, turn, quotien
 use Rattle.aq_ring.specs.Vectors.{IsZeroVector, Proportional, scaled}
 use Rattle.aq_ring.proofs.AmplitudeLaws.{product_comm, product_sum, product-zero, turn-product, quotient_product, sum-zero}
 use Rattle.aq_prog.specs.Digits.{digit, with_digit, amplitude_at, tabulate}
-use Rattle.aq_prog.specs.Gates.{divided, term, term_at, entry_at, is_controlled, gate_entry, apply_gate, apply_gates, project, flip_gate}
+use Rattle.aq_prog.specs.Gates.{divided, term, term_at, entry_at, is_controlled, gate_entry, apply_gate, apply_gates, project}
 use Rattle.aq_prog.specs.declared.gate.Entry.{Entry}
 use Rattle.aq_prog.specs.declared.gate.Entry.TheVariants as entry
 use Rattle.aq_prog.specs.declared.gate.Gate.{Gate}
@@ -62,7 +62,10 @@ apply_gate-scaled n g s v =
 
 pub apply_gate-proportional : (n : ℕ) (g : Gate) (u v : List Amplitude) → Proportional u v → Proportional (apply_gate n g u) (apply_gate n g v)
 apply_gate-proportional n g u v h = record {
-  left = h.left; right = h.right; left_nonzero = h.left_nonzero; right_nonzero = h.right_nonzero;
+  left = h.left;
+  right = h.right;
+  left_nonzero = h.left_nonzero;
+  right_nonzero = h.right_nonzero;
   same = sym (apply_gate-scaled n g h.left u) ∙ ap (apply_gate n g) h.same ∙ apply_gate-scaled n g h.right v;
 }
 
@@ -76,7 +79,10 @@ project-scaled n q outcome s v =
 
 pub project-proportional : (n q : ℕ) (outcome : Bool) (u v : List Amplitude) → Proportional u v → Proportional (project n q outcome u) (project n q outcome v)
 project-proportional n q outcome u v h = record {
-  left = h.left; right = h.right; left_nonzero = h.left_nonzero; right_nonzero = h.right_nonzero;
+  left = h.left;
+  right = h.right;
+  left_nonzero = h.left_nonzero;
+  right_nonzero = h.right_nonzero;
   same = sym (project-scaled n q outcome h.left u) ∙ ap (project n q outcome) h.same ∙ project-scaled n q outcome h.right v;
 }
 
@@ -95,7 +101,7 @@ pub apply_gate-zero : (n : ℕ) (g : Gate) (v : List Amplitude) → IsZeroVector
 unfolding apply_gate
 apply_gate-zero n g v h = tabulate-zero (length v) (gate_entry n g v)
     (λ x. (λ i. cond (is_controlled n g.controls x) (sum (of x 0 i) (of x 1 i)) (zero_at v h x i))
-      ∙ ap (λ t. cond (is_controlled n g.controls x) t amplitude_zero) (sum-zero amplitude_zero) ∙ same_if (is_controlled n g.controls x) amplitude_zero)
+    ∙ ap (λ t. cond (is_controlled n g.controls x) t amplitude_zero) (sum-zero amplitude_zero) ∙ same_if (is_controlled n g.controls x) amplitude_zero)
   where
     of : (x column : ℕ) → term_at n g v x column ≡ amplitude_zero
     of x column = ap (term (entry_at g.rows (digit n g.target x) column)) (zero_at v h (with_digit n g.target column x)) ∙ term-zero _

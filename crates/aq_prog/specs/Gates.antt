@@ -1,5 +1,5 @@
 -- What gates and measurements do to a vector of n qubits.
-use Rattle.std.specs.Prelude.{◌≡◌, ℕ, zero, suc, ◌+◌, ◌<◌, ◌≢◌, ◌==◌, Bool, true, false, List, [], ◌∷◌, length, slice_index_or, if◌then◌else◌, nat_eq}
+use Rattle.std.specs.Prelude.{◌≡◌, ℕ, zero, suc, ◌<◌, ◌≢◌, ◌==◌, Bool, true, List, [], ◌∷◌, length, slice_index_or, if◌then◌else◌, nat_eq}
 use Rattle.std.specs.List.{list_all, All, IsDistinct}
 use Rattle.aq_ring.specs.Fractions.{Amplitude}
 use Rattle.aq_ring.specs.Amplitudes.{amplitude_zero, sum, turn, quotient, FitsSum, FitsQuotient}

@@ -2,3 +2,4 @@ pub mod Digits
 pub mod Gates
 pub mod Runs
 pub mod Laws
+pub mod Table

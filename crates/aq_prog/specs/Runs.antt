@@ -3,7 +3,7 @@
 -- A run is named by its outcomes, which stand for the measurements to come, and by how many turns its loops may make in
 -- all. So every run of a program with measurements and loops is one value, and a statement about all outcomes and all
 -- numbers of turns is one about all runs.
-use Rattle.std.specs.Prelude.{ℕ, zero, suc, ◌-◌, ◌==◌, Bool, true, false, not, List, [], ◌∷◌, ◌++◌, map, Option, Some, None, slice_get, slice_set, if◌then◌else◌}
+use Rattle.std.specs.Prelude.{ℕ, zero, suc, Bool, false, not, List, [], ◌∷◌, ◌++◌, map, Option, Some, None, slice_get, slice_set, if◌then◌else◌}
 use Rattle.std.specs.Option.{option_map_or}
 use Rattle.aq_ring.specs.Fractions.{Amplitude}
 use Rattle.aq_prog.specs.Gates.{apply_gate, project, flip_gate}

@@ -4,6 +4,8 @@
 mod gate;
 pub mod laws;
 mod stmt;
+mod table;
 
 pub use gate::{Entry, Gate};
 pub use stmt::{Guard, Stmt};
+pub use table::{Rows, gate_named};
