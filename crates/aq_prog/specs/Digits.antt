@@ -1,7 +1,7 @@
 -- The digits of an index.
 --
 -- With n qubits an index below 2^n is a ket: its binary digits are those of the qubits, qubit 0 leftmost.
-use Rattle.std.specs.Prelude.{ℕ, zero, suc, ◌+◌, ◌-◌, ◌*◌, ◌/◌, ◌%◌, ◌^◌, List, [], ◌∷◌, ◌++◌, slice_get, unwrap_or}
+use Rattle.std.specs.Prelude.{ℕ, zero, suc, ◌+◌, ◌-◌, ◌*◌, ◌/◌, ◌%◌, ◌^◌, List, [], ◌∷◌, ◌++◌, slice_index_or}
 use Rattle.aq_ring.specs.Fractions.{Amplitude}
 use Rattle.aq_ring.specs.Amplitudes.{amplitude_zero}
 
@@ -19,7 +19,7 @@ with_digit n qubit b x = x - digit n qubit x * weight n qubit + b * weight n qub
 
 -- the entry of a vector at an index, zero behind its end
 abbrev pub amplitude_at : List Amplitude → ℕ → Amplitude
-amplitude_at v x = unwrap_or (slice_get v x) amplitude_zero
+amplitude_at v x = slice_index_or v x amplitude_zero
 
 -- the list of f 0, f 1, .., of this length
 abbrev pub tabulate : {A : Type 0} → ℕ → (ℕ → A) → List A

@@ -1,6 +1,6 @@
 -- What gates and measurements do to a vector of n qubits.
-use Rattle.std.specs.Prelude.{◌≡◌, ℕ, zero, suc, ◌+◌, ◌<◌, ◌==◌, Bool, true, false, List, [], ◌∷◌, length, slice_get, unwrap_or, if◌then◌else◌}
-use Rattle.std.specs.List.{list_all}
+use Rattle.std.specs.Prelude.{◌≡◌, ℕ, zero, suc, ◌<◌, ◌≢◌, ◌==◌, Bool, true, List, [], ◌∷◌, length, slice_index_or, if◌then◌else◌, nat_eq}
+use Rattle.std.specs.List.{list_all, All, IsDistinct}
 use Rattle.aq_ring.specs.Fractions.{Amplitude}
 use Rattle.aq_ring.specs.Amplitudes.{amplitude_zero, sum, turn, quotient, FitsSum, FitsQuotient}
 use Rattle.aq_prog.specs.Digits.{digit, with_digit, amplitude_at, tabulate}
@@ -20,7 +20,7 @@ term (entry.Unit j e) p = divided e (turn j p)
 
 -- the entry of a matrix in this row and column
 abbrev pub entry_at : List (List Entry) → ℕ → ℕ → Entry
-entry_at rows row column = unwrap_or (slice_get (unwrap_or (slice_get rows row) []) column) entry.Zero
+entry_at rows row column = slice_index_or (slice_index_or rows row []) column entry.Zero
 
 -- every control digit is 1
 abbrev pub is_controlled : ℕ → List ℕ → ℕ → Bool
@@ -72,3 +72,24 @@ pub record FitsGateAt (n : ℕ) (gate : Gate) (v : List Amplitude) (x : ℕ) : T
 -- they fit at every index
 pub record FitsGate (n : ℕ) (gate : Gate) (v : List Amplitude) : Type 0 where
   pub at : (x : ℕ) → x < length v → FitsGateAt n gate v x
+
+-- an entry keeps its bounds: fewer than eight turns, and at most one division by sqrt(2)
+abbrev pub IsEntry : Entry → Type 0
+IsEntry entry.Zero = Unit {0}
+IsEntry (entry.Unit j e) = (j < 8) × (e < 2)
+
+-- each entry of a matrix keeps its bounds
+abbrev pub AreEntries : List (List Entry) → Type 0
+AreEntries rows = (row column : ℕ) → IsEntry (entry_at rows row column)
+
+-- a gate on n qubits: its entries keep their bounds, and its target and its controls are different qubits below n
+pub record IsValidGate (n : ℕ) (gate : Gate) : Type 0 where
+  pub entries : AreEntries gate.rows
+  pub target : gate.target < n
+  pub controls : All (λ c. (c < n) × (c ≢ gate.target)) gate.controls
+  pub distinct : IsDistinct nat_eq gate.controls
+
+-- the vector after gates in this order
+abbrev pub apply_gates : ℕ → List Gate → List Amplitude → List Amplitude
+apply_gates n [] v = v
+apply_gates n (gate ∷ rest) v = apply_gates n rest (apply_gate n gate v)

@@ -1,3 +1,5 @@
 pub mod Digits
 pub mod Gates
 pub mod Runs
+pub mod Laws
+pub mod Table

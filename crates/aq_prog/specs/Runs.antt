@@ -3,7 +3,7 @@
 -- A run is named by its outcomes, which stand for the measurements to come, and by how many turns its loops may make in
 -- all. So every run of a program with measurements and loops is one value, and a statement about all outcomes and all
 -- numbers of turns is one about all runs.
-use Rattle.std.specs.Prelude.{ℕ, zero, suc, ◌-◌, ◌==◌, Bool, true, false, not, List, [], ◌∷◌, ◌++◌, map, Option, Some, None, slice_get, slice_set, if◌then◌else◌}
+use Rattle.std.specs.Prelude.{ℕ, zero, suc, Bool, false, not, List, [], ◌∷◌, ◌++◌, map, Option, Some, None, slice_get, slice_set, if◌then◌else◌}
 use Rattle.std.specs.Option.{option_map_or}
 use Rattle.aq_ring.specs.Fractions.{Amplitude}
 use Rattle.aq_prog.specs.Gates.{apply_gate, project, flip_gate}
@@ -136,3 +136,8 @@ meaning n = fold-Stmt Meaning (meaning_step n)
 -- the run of statements on n qubits
 abbrev pub run : ℕ → List Stmt → Meaning
 run n body = in_order (map (meaning n) body)
+
+-- gates played in this order, each with the vector before it
+abbrev pub played_gates : ℕ → List Gate → List Amplitude → List Played
+played_gates n [] v = []
+played_gates n (gate ∷ rest) v = record { gate = gate; before = v } ∷ played_gates n rest (apply_gate n gate v)

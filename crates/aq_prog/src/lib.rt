@@ -2,7 +2,10 @@
 #![tactic(auto)]
 
 mod gate;
+pub mod laws;
 mod stmt;
+mod table;
 
 pub use gate::{Entry, Gate};
 pub use stmt::{Guard, Stmt};
+pub use table::{Rows, gate_named};

@@ -1,0 +1,107 @@
+//! A gate on a vector, in place.
+ghost use Rattle.std.specs.Prelude.{◌≡◌, ◌≤◌, ◌<◌, ◌^◌, ◌+◌, length, OnOk, OnErr, IfErr, MatchOption, slice_set};
+ghost use Rattle.aq_prog.specs.Digits.{amplitude_at, weight};
+ghost use Rattle.aq_prog.specs.Gates.{apply_gate, FitsGate, FitsGateAt, AreEntries, IsValidGate};
+ghost use Rattle.aq_plain.specs.Vectors.{IsStateVector};
+ghost use Rattle.aq_plain.specs.Wide.{RowGives, row_entry, paired, FitsRowOf, row_of, IsWideAt, IsFirstWide};
+
+use crate::places::{digit_of, has_controls, weight_of};
+use crate::row::{WideSum, fitting_sum, row_sum};
+use crate::vector::Vector;
+use aq_prog::Gate;
+use aq_ring::Amp;
+
+/// Plays the gate. On a refusal the vector is as before, and the operands are those of the first sum or quotient that
+/// doesn't fit, at the first index that has one.
+pub fn apply_plain(vector: &mut Vector, gate: &Gate) -> Result<(), WideSum>
+    requires { IsValidGate vector.old.qubits gate.now }
+    ensures qubits { vector.new.qubits ≡ vector.old.qubits }
+    ensures amps { OnOk result (vector.new.amps ≡ apply_gate vector.old.qubits gate.now vector.old.amps) }
+    ensures fits { OnOk result (FitsGate vector.old.qubits gate.now vector.old.amps) }
+    ensures wide { IfErr result (λ w. IsFirstWide vector.old.qubits gate.now vector.old.amps w.left w.right) }
+    ensures unchanged { OnErr result (vector.new ≡ vector.old) }
+{
+    let qubits = vector.qubits();
+    if let Some(wide) = find_wide(vector.amps(), qubits, gate) {
+        return Err(wide);
+    }
+    vector.play(gate);
+    Ok(())
+}
+
+/// The operands of the first sum or quotient that doesn't fit, if there is one.
+fn find_wide(amps: &[Amp], qubits: u32, gate: &Gate) -> Option<WideSum>
+    requires valid { IsValidGate qubits gate.now }
+    requires sizes { IsStateVector qubits amps.now }
+    ensures { MatchOption result (FitsGate qubits gate.now amps.now) (λ w. IsFirstWide qubits gate.now amps.now w.left w.right) }
+{
+    for index in 0..amps.len() {
+        if let Some(wide) = wide_at(amps, qubits, gate, index) {
+            return Some(wide);
+        }
+    }
+    None
+}
+
+/// The operands of the first sum or quotient at the index that doesn't fit, if there is one.
+fn wide_at(amps: &[Amp], qubits: u32, gate: &Gate, index: usize) -> Option<WideSum>
+    requires valid { IsValidGate qubits gate.now }
+    requires sizes { IsStateVector qubits amps.now }
+    requires within { index < length amps.now }
+    ensures { MatchOption result (FitsGateAt qubits gate.now amps.now index) (λ w. IsWideAt qubits gate.now amps.now index w.left w.right) }
+{
+    if !has_controls(index, qubits, gate.controls.as_slice()) {
+        return None;
+    }
+    match new_entry(amps, qubits, gate, index) {
+        Ok(_) => None,
+        Err(wide) => Some(wide),
+    }
+}
+
+/// The row of the index on the two amplitudes that differ from it in the target's digit alone.
+fn new_entry(amps: &[Amp], qubits: u32, gate: &Gate, index: usize) -> Result<Amp, WideSum>
+    requires valid { IsValidGate qubits gate.now }
+    requires sizes { IsStateVector qubits amps.now }
+    requires within { index < length amps.now }
+    ensures { RowGives (row_entry qubits gate.now index 0) (row_entry qubits gate.now index 1)
+        (paired qubits gate.now amps.now index 0) (paired qubits gate.now amps.now index 1) result }
+{
+    let weight = weight_of(qubits, gate.target);
+    let digit = digit_of(index, qubits, gate.target);
+    let low = index - digit * weight;
+    let row = gate.rows[digit];
+    row_sum(row[0], row[1], amps[low], amps[low + weight])
+}
+
+/// Writes the new amplitudes pair by pair, where all of them fit.
+pub(crate) fn write_gate(amps: &mut [Amp], qubits: u32, gate: &Gate)
+    requires valid { IsValidGate qubits gate.now }
+    requires sizes { IsStateVector qubits amps.old }
+    requires fits { FitsGate qubits gate.now amps.old }
+    ensures { amps.new ≡ apply_gate qubits gate.now amps.old }
+{
+    let weight = weight_of(qubits, gate.target);
+    for index in 0..amps.len() {
+        if digit_of(index, qubits, gate.target) == 0
+            && has_controls(index, qubits, gate.controls.as_slice())
+        {
+            write_pair(amps, gate, index, weight);
+        }
+    }
+}
+
+/// Writes the two new amplitudes at the index and so far behind it.
+fn write_pair(amps: &mut [Amp], gate: &Gate, low: usize, weight: usize)
+    requires entries { AreEntries gate.now.rows }
+    requires within { low + weight < length amps.old }
+    requires apart { 0 < weight }
+    requires top { FitsRowOf gate.now 0 (amplitude_at amps.old low) (amplitude_at amps.old (low + weight)) }
+    requires bottom { FitsRowOf gate.now 1 (amplitude_at amps.old low) (amplitude_at amps.old (low + weight)) }
+    ensures { amps.new ≡ slice_set (slice_set amps.old low (row_of gate.now 0 (amplitude_at amps.old low) (amplitude_at amps.old (low + weight))))
+        (low + weight) (row_of gate.now 1 (amplitude_at amps.old low) (amplitude_at amps.old (low + weight))) }
+{
+    let (left, right) = (amps[low], amps[low + weight]);
+    amps[low] = fitting_sum(gate.rows[0][0], gate.rows[0][1], left, right);
+    amps[low + weight] = fitting_sum(gate.rows[1][0], gate.rows[1][1], left, right);
+}

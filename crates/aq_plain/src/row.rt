@@ -1,0 +1,82 @@
+//! A row of a gate's matrix on two amplitudes.
+ghost use Rattle.std.specs.Prelude.{◌≡◌, MatchResult};
+ghost use Rattle.aq_ring.specs.Amplitudes.{sum};
+ghost use Rattle.aq_prog.specs.Gates.{divided, term, FitsDivided, FitsTerm, IsEntry};
+ghost use Rattle.aq_plain.specs.Wide.{IsWideDivision, IsWideTerm, FitsRow, RowGives};
+
+use aq_prog::Entry;
+use aq_ring::Amp;
+
+/// The operands of a sum that doesn't fit. For a quotient both are its one operand.
+#[derive(Clone, Copy, Debug, PartialEq, Eq)]
+pub struct WideSum {
+    pub left: Amp,
+    pub right: Amp,
+}
+
+/// The amplitude divided so many times by `sqrt(2)`. On a refusal, the operand of the first division that doesn't fit.
+fn quotient(amp: Amp, times: u8) -> Result<Amp, Amp>
+    ensures { MatchResult result (λ r. FitsDivided times amp × (r ≡ divided times amp)) (λ w. IsWideDivision times amp w) }
+{
+    let mut rest = amp;
+    for i in 0..times {
+        match rest.over_root() {
+            Some(quotient) => rest = quotient,
+            None => return Err(rest),
+        }
+    }
+    Ok(rest)
+}
+
+/// What the entry makes of the amplitude. On a refusal, the operand of the first division that doesn't fit.
+fn term_of(entry: Entry, amp: Amp) -> Result<Amp, Amp>
+    requires { IsEntry entry }
+    ensures { MatchResult result (λ r. FitsTerm entry amp × (r ≡ term entry amp)) (λ w. IsWideTerm entry amp w) }
+{
+    match entry {
+        Entry::Zero => Ok(Amp::zero()),
+        Entry::Unit { turn, roots } => quotient(amp.turn(turn), roots),
+    }
+}
+
+/// The sum of the two terms. On a refusal, the operands of the first sum or quotient that doesn't fit.
+pub(crate) fn row_sum(first: Entry, second: Entry, left: Amp, right: Amp) -> Result<Amp, WideSum>
+    requires first { IsEntry first }
+    requires second { IsEntry second }
+    ensures { RowGives first second left right result }
+{
+    let left_term = match term_of(first, left) {
+        Ok(amp) => amp,
+        Err(wide) => return Err(WideSum {
+            left: wide,
+            right: wide,
+        }),
+    };
+    let right_term = match term_of(second, right) {
+        Ok(amp) => amp,
+        Err(wide) => return Err(WideSum {
+            left: wide,
+            right: wide,
+        }),
+    };
+    match left_term.sum(right_term) {
+        Some(amp) => Ok(amp),
+        None => Err(WideSum {
+            left: left_term,
+            right: right_term,
+        }),
+    }
+}
+
+/// The sum of the two terms, where it fits.
+pub(crate) fn fitting_sum(first: Entry, second: Entry, left: Amp, right: Amp) -> Amp
+    requires first { IsEntry first }
+    requires second { IsEntry second }
+    requires fits { FitsRow first second left right }
+    ensures { result ≡ sum (term first left) (term second right) }
+{
+    match row_sum(first, second, left, right) {
+        Ok(amp) => amp,
+        Err(_) => unreachable!(),
+    }
+}

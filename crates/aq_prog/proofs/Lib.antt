@@ -1,0 +1,4 @@
+pub mod DigitLaws
+pub mod VectorLaws
+pub mod RunLaws
+pub mod TableLaws
