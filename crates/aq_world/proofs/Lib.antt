@@ -1,3 +1,3 @@
 mod FilesLemmas
-pub mod PiecesLemmas
+mod LinesLemmas
 pub mod PrintsLemmas

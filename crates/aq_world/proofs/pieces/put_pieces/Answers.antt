@@ -1,9 +1,10 @@
-use Rattle.std.proofs.Common.{arith, List, []}
+use Rattle.std.proofs.Common.{arith, ◌∙◌, ap, Err, ℕ, List, [], subst}
+use Rattle.std.proofs.lemmas.Result.{err_from_is_err_and}
+use Rattle.aq_world.specs.Prints.{Prints}
 use Rattle.aq_world.specs.declared.pieces.Piece.{Piece}
 use Rattle.aq_world.specs.declared.pieces.Piece.TheVariants as piece
-use Rattle.std.proofs.lemmas.Result.{err_from_is_err_and}
-use Rattle.aq_world.proofs.PrintsLemmas.{Appends-then, Rose-later}
-use Rattle.aq_world.proofs.PiecesLemmas.{done-more, front-of}
+use Rattle.aq_world.proofs.PrintsLemmas.{part-more}
+use Rattle.aq_world.proofs.LinesLemmas.{Added-then, Stopped-then, Prints-line, Prints-line_stops, part-stops, pieces-left, pieces-done}
 use Rattle.aq_world.proofs.pieces.put_pieces.Goals as goal
 
 -- the piece that a list has past its end
@@ -13,16 +14,20 @@ none = piece.Text (record { ref_ptr = (0, 0); now = [] })
 pub loop-piece-preserved : goal.loop-piece-preserved
 loop-piece-preserved g c =
     let i = c.loop-piece.invariant in
-    let p = c.in_ok-put_piece.ensures in
-    (_, Appends-then _ _ _ _ _ i.1 p.bytes, done-more c.args.pieces.now c.loop-piece.piece-index none _ _ (omega arith) i.2, omega (arith, p.later))
+    (_, Added-then i.1 c.in_ok-add_piece.ensures, part-more _ _ _ _ _ (pieces-left c.args.pieces.now c.loop-piece.piece-index none (omega arith)) i.2)
 
-pub returns-in_err-put_piece : goal.returns-in_err-put_piece
-returns-in_err-put_piece g c =
+pub returns-in_err-add_piece : goal.returns-in_err-add_piece
+returns-in_err-add_piece g c =
     let p = err_from_is_err_and c.from_residual.result c.from_residual.ensures.1 in
     let i = c.loop-piece.invariant in
-    let e = c.in_err-put_piece.ensures in
-    rw (p.1, p.2) (record {
-      bytes = (_, front-of c.args.pieces.now c.loop-piece.piece-index none _ _ _ (omega arith) i.2 e.bytes.1, Appends-then _ _ _ _ _ i.1 e.bytes.2);
-      later = omega (arith, e.later);
-      failed = λ h. Rose-later _ _ _ i.3 (e.failed h);
-    })
+    Prints-line_stops
+    (part-stops _ _ _ _ _ (pieces-left c.args.pieces.now c.loop-piece.piece-index none (omega arith)) i.2 (Stopped-then i.1 c.in_err-add_piece.ensures))
+    (p.1 ∙ ap (λ e. Err e) p.2)
+
+pub returns : goal.returns
+returns g c =
+    let i = c.loop-piece.invariant in
+    let P : List ℕ → Type 0 = λ t. Prints (g.K.Sink.told c.loop-piece.out) (g.K.Sink.told c.put_text.new.out) (g.K.Sink.faults c.loop-piece.out) (g.K.Sink.faults c.put_text.new.out) c.put_text.result t in
+    let Q : List ℕ → Type 0 = λ t. Prints (g.K.Sink.told c.args.out.now) (g.K.Sink.told c.put_text.new.out) (g.K.Sink.faults c.args.out.now) (g.K.Sink.faults c.put_text.new.out) c.put_text.result t in
+    subst Q (pieces-done c.args.pieces.now c.loop-piece.piece-index _ _ (omega arith) i.2)
+    (Prints-line c.put_text.result i.1 (subst P c.as_slice.ensures.value c.put_text.ensures))

@@ -1,0 +1,16 @@
+use Rattle.std.proofs.Common.{◌∙◌, ap, Err, false, arith}
+use Rattle.std.proofs.lemmas.Result.{err_from_is_err_and}
+use Rattle.aq_world.proofs.PrintsLemmas.{part-more}
+use Rattle.aq_world.proofs.LinesLemmas.{Added-then, Stopped-then, Adds-stops, part-stops, bits-left}
+use Rattle.aq_world.proofs.line.add_digits.Goals as goal
+
+pub loop-bit-preserved : goal.loop-bit-preserved
+loop-bit-preserved g c =
+    let i = c.loop-bit.invariant in
+    (_, Added-then i.1 c.in_ok-add_byte.ensures, part-more _ _ _ _ _ (bits-left c.args.bits.now c.loop-bit.bit-index false _ (omega arith) c.bit_digit.ensures) i.2)
+
+pub returns-in_err-add_byte : goal.returns-in_err-add_byte
+returns-in_err-add_byte g c =
+    let p = err_from_is_err_and c.from_residual.result c.from_residual.ensures.1 in
+    let i = c.loop-bit.invariant in
+    Adds-stops _ (part-stops _ _ _ _ _ (bits-left c.args.bits.now c.loop-bit.bit-index false _ (omega arith) c.bit_digit.ensures) i.2 (Stopped-then i.1 c.in_err-add_byte.ensures)) (p.1 ∙ ap (λ e. Err e) p.2)
