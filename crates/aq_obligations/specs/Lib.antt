@@ -1,0 +1,5 @@
+pub mod Claims
+pub mod Obligations
+pub mod Wide
+pub mod Worlds
+pub mod Correct
