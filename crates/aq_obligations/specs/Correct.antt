@@ -2,7 +2,7 @@
 use Rattle.std.specs.Prelude.{◌≡◌, ℕ, Bool, false, List, [], All, replicate, slice_index_or}
 use Rattle.aq_ring.specs.Fractions.{Amplitude}
 use Rattle.aq_ring.specs.Vectors.{IsZeroVector}
-use Rattle.aq_prog.specs.Runs.{State, Run, Passed, How, run}
+use Rattle.aq_prog.specs.Runs.{Run, Passed, How, run}
 use Rattle.aq_prog.specs.declared.stmt.Stmt.{Stmt}
 use Rattle.aq_obligations.specs.Claims.{ClaimCase, Holds}
 
@@ -11,7 +11,7 @@ pub record Annotated : Type 0 where
   pub qubits : ℕ
   pub bits : ℕ
   pub body : List Stmt
-  pub claims : List (List ClaimCase)      -- by the numbers that the body names
+  pub claims : List (List ClaimCase)  -- by the numbers that the body names
   pub precondition : List ClaimCase
   pub postcondition : List ClaimCase
 
@@ -33,4 +33,4 @@ abbrev pub IsCorrect : Annotated → Type 0
 IsCorrect p = (v : List Amplitude) (outcomes : List Bool) (turns : ℕ) → (IsZeroVector v → ⊥) → Holds p.precondition (zeros p.bits) v
     → All (PassedHolds p) (run_from p v outcomes turns).passed
     × ((run_from p v outcomes turns).how ≡ How.Ended → (IsZeroVector (run_from p v outcomes turns).last.vector → ⊥)
-        → Holds p.postcondition (run_from p v outcomes turns).last.bits (run_from p v outcomes turns).last.vector)
+    → Holds p.postcondition (run_from p v outcomes turns).last.bits (run_from p v outcomes turns).last.vector)

@@ -3,3 +3,4 @@ pub mod Obligations
 pub mod Wide
 pub mod Worlds
 pub mod Correct
+pub mod GatesAlone

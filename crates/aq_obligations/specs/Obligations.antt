@@ -2,7 +2,7 @@
 use Rattle.std.specs.Prelude.{◌≡◌, ℕ, Bool, true, false, List, [], All, Any, Contains, length, Option, IfSome}
 use Rattle.aq_ring.specs.Fractions.{Amplitude}
 use Rattle.aq_ring.specs.Vectors.{IsZeroVector}
-use Rattle.aq_prog.specs.Runs.{State, Run, How, run, has_bit}
+use Rattle.aq_prog.specs.Runs.{Run, How, run, has_bit}
 use Rattle.aq_prog.specs.declared.stmt.Guard.{Guard}
 use Rattle.aq_prog.specs.declared.stmt.Stmt.{Stmt}
 use Rattle.aq_obligations.specs.Claims.{ClaimCase, are_met, Holds}
@@ -11,12 +11,12 @@ use Rattle.aq_obligations.specs.Claims.{ClaimCase, are_met, Holds}
 pub record Obligation : Type 0 where
   pub qubits : ℕ
   pub bits : ℕ
-  pub start : Bool                                -- the program's start, where every bit is 0
+  pub start : Bool  -- the program's start, where every bit is 0
   pub assumed : List ClaimCase
-  pub given : Option Guard                        -- what is known of a bit besides
+  pub given : Option Guard  -- what is known of a bit besides
   pub fragment : List Stmt
   pub goal : List ClaimCase
-  pub products : List (Amplitude × Amplitude)     -- the products that the tensors and powers of its sets take
+  pub products : List (Amplitude × Amplitude)  -- the products that the tensors and powers of its sets take
 
 -- a state that a case lists, with bits that the case allows
 abbrev pub IsListed : List Bool → List Amplitude → ClaimCase → Type 0

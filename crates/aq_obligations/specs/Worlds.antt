@@ -3,14 +3,13 @@
 -- A world is what several runs have in common: a case of the assumption, the bits that are known, and the outcomes. It has
 -- a vector for each one that the case lists. A bit is decided only where the run hangs on it, 0 before 1. So the worlds
 -- come in a fixed order, and the first place of the first world that escapes the goal is one state.
-use Rattle.std.specs.Prelude.{◌≡◌, ℕ, zero, suc, ◌+◌, ◌==◌, Bool, true, false, not, List, [], ◌∷◌, ◌++◌, map, filter, All, length, Option, Some, None, slice_get, slice_set, unwrap_or, replicate, option_and_then, if◌then◌else◌, ◌⊎◌}
+use Rattle.std.specs.Prelude.{◌≡◌, ℕ, ◌==◌, Bool, true, false, not, List, [], ◌∷◌, ◌++◌, map, filter, All, length, Option, Some, None, slice_get, slice_set, unwrap_or, replicate, option_and_then, if◌then◌else◌, ◌⊎◌}
 use Rattle.std.specs.List.{list_any, list_all, flat_map}
 use Rattle.aq_ring.specs.Fractions.{Amplitude}
 use Rattle.aq_ring.specs.Vectors.{IsZeroVector, is_zero_vector}
 use Rattle.aq_prog.specs.Gates.{apply_gate, project}
-use Rattle.aq_prog.specs.Runs.{State, run, flipped}
+use Rattle.aq_prog.specs.Runs.{flipped}
 use Rattle.aq_prog.specs.Digits.{tabulate}
-use Rattle.aq_prog.specs.declared.gate.Gate.{Gate}
 use Rattle.aq_prog.specs.declared.stmt.Guard.{Guard}
 use Rattle.aq_prog.specs.declared.stmt.Stmt.{Stmt, fold-Stmt}
 use Rattle.aq_prog.specs.declared.stmt.Stmt.TheOpen.{Stmt-F}
@@ -23,10 +22,10 @@ Partial = List (Option Bool)
 
 pub record World : Type 0 where
   pub case : ClaimCase
-  pub start : Partial                      -- the bits at the beginning, as far as they are fixed
-  pub bits : Partial                       -- the bits now
+  pub start : Partial  -- the bits at the beginning, as far as they are fixed
+  pub bits : Partial  -- the bits now
   pub outcomes : List Bool
-  pub vectors : List (List Amplitude)      -- one for each vector of the case, in its order
+  pub vectors : List (List Amplitude)  -- one for each vector of the case, in its order
 
 -- the value that is known of a bit
 abbrev pub known : Partial → ℕ → Option Bool
