@@ -238,7 +238,7 @@ impl Quad {
     }
 }
 
-/// The four products, added from left to right.
+/// The four products, added from left to right. None exactly where a product or a sum on the way is out of range.
 fn row(
     p: Coefficient,
     s: Coefficient,
@@ -249,7 +249,8 @@ fn row(
     v: Coefficient,
     w: Coefficient,
 ) -> Option<Coefficient>
-    ensures { SomeIff result (FitsTerms (p *ℤ s) (q *ℤ t) (r *ℤ u) (v *ℤ w)) (p *ℤ s +ℤ q *ℤ t +ℤ r *ℤ u +ℤ v *ℤ w) }
+    ensures { SomeIff result (FitsTerms (p *ℤ s) (q *ℤ t) (r *ℤ u) (v *ℤ w))
+        (p *ℤ s +ℤ q *ℤ t +ℤ r *ℤ u +ℤ v *ℤ w) }
 {
     let first = p.multiply(s)?;
     let second = q.multiply(t)?;

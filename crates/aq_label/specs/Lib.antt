@@ -1,0 +1,5 @@
+pub mod Parts
+pub mod Single
+pub mod Laws
+pub mod Ratios
+pub mod Walks
