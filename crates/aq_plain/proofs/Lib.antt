@@ -1,2 +1,3 @@
 pub mod PairLaws
 pub mod HalfLaws
+pub mod ValidLaws

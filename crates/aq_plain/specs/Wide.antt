@@ -31,6 +31,10 @@ pub record FitsRow (e f : Entry) (p q : Amplitude) : Type 0 where
   pub right : FitsTerm f q
   pub sums : FitsSum (term e p) (term f q)
 
+-- a row that fits on every two amplitudes
+pub record AlwaysFits (e f : Entry) : Type 0 where
+  pub on : (p q : Amplitude) → FitsRow e f p q
+
 -- a division of the left term doesn't fit
 pub record IsWideLeft (e : Entry) (p left right : Amplitude) : Type 0 where
   pub operand : IsWideTerm e p left

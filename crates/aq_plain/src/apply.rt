@@ -6,7 +6,7 @@ ghost use Rattle.aq_plain.specs.Vectors.{IsStateVector};
 ghost use Rattle.aq_plain.specs.Wide.{RowGives, row_entry, paired, FitsRowOf, row_of, IsWideAt, IsFirstWide};
 
 use crate::places::{digit_of, has_controls, weight_of};
-use crate::row::{WideSum, fitting_sum, row_sum};
+use crate::row::{WideSum, always_fits, fitting_sum, row_sum};
 use crate::vector::Vector;
 use aq_prog::Gate;
 use aq_ring::Amp;
@@ -35,6 +35,11 @@ fn find_wide(amps: &[Amp], qubits: u32, gate: &Gate) -> Option<WideSum>
     requires sizes { IsStateVector qubits amps.now }
     ensures { MatchOption result (FitsGate qubits gate.now amps.now) (λ w. IsFirstWide qubits gate.now amps.now w.left w.right) }
 {
+    if always_fits(gate.rows[0][0], gate.rows[0][1])
+        && always_fits(gate.rows[1][0], gate.rows[1][1])
+    {
+        return None;
+    }
     for index in 0..amps.len() {
         if let Some(wide) = wide_at(amps, qubits, gate, index) {
             return Some(wide);

@@ -1,8 +1,9 @@
 //! A row of a gate's matrix on two amplitudes.
 ghost use Rattle.std.specs.Prelude.{◌≡◌, MatchResult};
+ghost use Rattle.std.specs.Bool.{OnTrue};
 ghost use Rattle.aq_ring.specs.Amplitudes.{sum};
 ghost use Rattle.aq_prog.specs.Gates.{divided, term, FitsDivided, FitsTerm, IsEntry};
-ghost use Rattle.aq_plain.specs.Wide.{IsWideDivision, IsWideTerm, FitsRow, RowGives};
+ghost use Rattle.aq_plain.specs.Wide.{IsWideDivision, IsWideTerm, AlwaysFits, FitsRow, RowGives};
 
 use aq_prog::Entry;
 use aq_ring::Amp;
@@ -65,6 +66,17 @@ pub(crate) fn row_sum(first: Entry, second: Entry, left: Amp, right: Amp) -> Res
             left: left_term,
             right: right_term,
         }),
+    }
+}
+
+/// Whether it is plain from the entries alone that their row fits: nothing is divided, and a term is zero.
+pub(crate) fn always_fits(first: Entry, second: Entry) -> bool
+    ensures { OnTrue result (AlwaysFits first second) }
+{
+    match (first, second) {
+        (Entry::Zero, Entry::Unit { roots, .. }) => roots == 0,
+        (Entry::Unit { roots, .. }, Entry::Zero) => roots == 0,
+        _ => false,
     }
 }
 
