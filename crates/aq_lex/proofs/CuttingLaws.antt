@@ -1,7 +1,7 @@
 -- A text has one cut, for any rules that suit one another.
-use Rattle.std.proofs.Common.{◌≡◌, ℕ, zero, suc, ◌+◌, ◌<◌, ◌≤◌, inl, inr, List, [], ◌∷◌, ◌++◌, length, take, refl, sym, ap, ◌∙◌, append_assoc, subst, ap₂, Bool, true, false, arith}
+use Rattle.std.proofs.Common.{◌≡◌, ℕ, zero, suc, ◌<◌, ◌≤◌, inl, inr, List, [], ◌∷◌, ◌++◌, length, take, refl, sym, ap, ◌∙◌, subst, ap₂, Bool, true, false, arith}
 use Rattle.std.proofs.lemmas.List.{nil_from_length, take_at, append_cancel_left, length-append}
-use Rattle.aq_lex.specs.Cutting.{Piece, IsLongest, IsBad, IsFront, Cut}
+use Rattle.aq_lex.specs.Cutting.{Piece, IsFront, Cut}
 
 same_fronts : (s t u v : List ℕ) → s ++ u ≡ t ++ v → length s ≡ length t → s ≡ t
 same_fronts s t u v e l = sym (take_at s u (length s) refl) ∙ ap (take (length s)) e ∙ take_at t v (length s) (sym l)
@@ -15,8 +15,8 @@ same_piece l m p q = λ i. record { kind = p i; text = q i }
 
 -- some: no empty text is of a class. one: a text is of one class.
 module _ {C : Type 0} (Is : List ℕ → C → List ℕ → Type 0) (bad : ℕ → C) (stops : C → Bool)
-  (some : (before : List ℕ) (c : C) → Is before c [] → ⊥)
-  (one : (before : List ℕ) (c d : C) (text : List ℕ) → Is before c text → Is before d text → c ≡ d) where
+    (some : (before : List ℕ) (c : C) → Is before c [] → ⊥)
+    (one : (before : List ℕ) (c d : C) (text : List ℕ) → Is before c text → Is before d text → c ≡ d) where
   -- one piece stands at the front
   pub one_front : (before bytes : List ℕ) (l m : Piece C) → IsFront Is bad stops before bytes l → IsFront Is bad stops before bytes m → (l.kind ≡ m.kind) × (l.text ≡ m.text)
   one_front before bytes l m (inl h) (inl k) =
@@ -64,7 +64,7 @@ pub record Found {C : Type 0} (Is : List ℕ → C → List ℕ → Type 0) (bad
 
 -- find: something is found at the front of any bytes.
 module _ {C : Type 0} (Is : List ℕ → C → List ℕ → Type 0) (bad : ℕ → C) (stops : C → Bool)
-  (find : (before : List ℕ) (b : ℕ) (bs : List ℕ) → Found Is bad stops before (b ∷ bs)) where
+    (find : (before : List ℕ) (b : ℕ) (bs : List ℕ) → Found Is bad stops before (b ∷ bs)) where
   cut_by : (before bytes tail : List ℕ) (l : Piece C) (v : Bool) → stops l.kind ≡ v → IsFront Is bad stops before bytes l → bytes ≡ l.text ++ tail → (ls : List (Piece C)) × Cut Is bad stops (before ++ l.text) tail ls → (ls : List (Piece C)) × Cut Is bad stops before bytes ls
   cut_by before bytes tail l true e piece parts rest = (l ∷ [], (piece, tail, parts, (λ _. refl), (λ f. let no : true ≡ false = sym e ∙ f in cc)))
   cut_by before bytes tail l false e piece parts rest = (l ∷ rest.0, (piece, tail, parts, (λ f. let no : true ≡ false = sym f ∙ e in cc), (λ _. rest.1)))

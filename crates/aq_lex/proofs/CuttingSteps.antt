@@ -21,7 +21,7 @@ not_both : {P : Type 0} (b : Bool) → b ≡ true → b ≡ false → P
 not_both b p q = cc
 
 module _ {C T E : Type 0} (Is : List ℕ → C → List ℕ → Type 0) (bad : ℕ → C) (stops : C → Bool)
-  (reading : List ℕ → C → List ℕ → Result (Option T) E) (last : List ℕ → T) where
+    (reading : List ℕ → C → List ℕ → Result (Option T) E) (last : List ℕ → T) where
   -- However the bytes behind `before` are cut, the source is cut so that these tokens come first.
   pub record Carries (source before bytes : List ℕ) (ts : List T) : Type 0 where
     pub go : (ls : List (Piece C)) → Cut Is bad stops before bytes ls → (all : List (Piece C)) × Cut Is bad stops [] source all × (tokens_of reading last [] all ≡ prefixed ts (tokens_of reading last before ls))
@@ -46,9 +46,9 @@ pub record Turn {C : Type 0} (Is : List ℕ → C → List ℕ → Type 0) (bad 
 
 -- goes: what gives no fault goes on. halts: what gives a fault stops the cut.
 module _ {C T E : Type 0} (Is : List ℕ → C → List ℕ → Type 0) (bad : ℕ → C) (stops : C → Bool)
-  (reading : List ℕ → C → List ℕ → Result (Option T) E) (last : List ℕ → T)
-  (goes : (before text : List ℕ) (c : C) (r : Option T) → reading before c text ≡ Ok r → stops c ≡ false)
-  (halts : (before text : List ℕ) (c : C) (e : E) → reading before c text ≡ Err e → stops c ≡ true) where
+    (reading : List ℕ → C → List ℕ → Result (Option T) E) (last : List ℕ → T)
+    (goes : (before text : List ℕ) (c : C) (r : Option T) → reading before c text ≡ Ok r → stops c ≡ false)
+    (halts : (before text : List ℕ) (c : C) (e : E) → reading before c text ≡ Err e → stops c ≡ true) where
   Carries-none : (source before bytes : List ℕ) (ts : List T) (c : C) (text tail : List ℕ) → Carries Is bad stops reading last source before bytes ts → IsFront Is bad stops before bytes (record { kind = c; text = text }) → bytes ≡ text ++ tail → reading before c text ≡ Ok None → Carries Is bad stops reading last source (before ++ text) tail ts
   Carries-none source before bytes ts c text tail h front e r = record {
     go = λ ls cut.
