@@ -18,7 +18,7 @@ use denote.Hole.Carrier.{roll}
 use Rattle.aq_prog.proofs.RunLaws.{gates_alone}
 use Rattle.aq_prog.proofs.VectorLaws.{apply_gate-proportional}
 use Rattle.aq_obligations.specs.Claims.{ClaimCase, CaseHolds, Holds}
-use Rattle.aq_obligations.specs.Obligations.{Obligation, IsListed, IsStart, run_of, IsWhole, IsTrueOf}
+use Rattle.aq_obligations.specs.Obligations.{Obligation, IsListed, IsStart, run_of, IsWhole, IsTrueOf, Shown, IsCounterexample}
 use Rattle.aq_obligations.specs.Wide.{IsWide}
 use Rattle.aq_obligations.specs.Worlds.{World, Spread, in_worlds, with_vectors, spread, spread_step, worlds, is_nought, IsKept, IsRefutation, split, mentioned}
 use Rattle.aq_obligations.specs.Correct.{run_from, PassedHolds, IsCorrect}
@@ -151,6 +151,17 @@ refuted n gates before after nonzero apart = record {
   end_is = sym (end_is n gates before after before [] []);
 }
 
+counterexample : (n : ℕ) (gates : List Gate) (before after : List Amplitude) → (IsZeroVector (apply_gates n gates before) → ⊥)
+    → (Proportional (apply_gates n gates before) after → ⊥) → IsCounterexample (gates_obligation n gates before after) (gates_shown n gates before)
+counterexample n gates before after nonzero apart = record {
+  start = start_is n gates before after;
+  whole = subst IsWhole (sym (run_is n gates before after before [] [])) (refl, refl);
+  end_bits_are = sym (end_bits_are n gates before after before [] []);
+  end_is = sym (end_is n gates before after before [] []);
+  nonzero = nonzero;
+  escapes = λ h. apart (one_holds after (apply_gates n gates before) [] h);
+}
+
 wide_gate : (n : ℕ) (gates : List Gate) (before after : List Amplitude) (step : Played) → Contains (played_gates n gates before) step
     → (FitsGate n step.gate step.before → ⊥) → IsWide (gates_obligation n gates before after)
 wide_gate n gates before after step in_run unfit = inl (record {
@@ -215,6 +226,7 @@ gates_alone_laws = record {
   zero = λ n gates before after z. true_if n gates before after (λ some. absurd (some z));
   proportional = λ n gates before after p. true_if n gates before after (λ _. p);
   different = refuted;
+  counterexample = counterexample;
   wide_gate = wide_gate;
   wide_product = wide_product;
   correct = correct;

@@ -8,9 +8,9 @@ use Rattle.aq_prog.specs.Runs.{Played, played_gates}
 use Rattle.aq_prog.specs.declared.gate.Gate.{Gate}
 use Rattle.aq_prog.specs.declared.stmt.Stmt.TheVariants as stmt
 use Rattle.aq_obligations.specs.Claims.{ClaimCase}
-use Rattle.aq_obligations.specs.Obligations.{Obligation, IsTrueOf}
+use Rattle.aq_obligations.specs.Obligations.{Obligation, Shown, IsTrueOf, IsCounterexample}
 use Rattle.aq_obligations.specs.Wide.{IsWide}
-use Rattle.aq_obligations.specs.Worlds.{IsRefutation, Shown}
+use Rattle.aq_obligations.specs.Worlds.{IsRefutation}
 use Rattle.aq_obligations.specs.Correct.{Annotated, IsCorrect}
 
 -- the claim that lists one vector and asks for no bit
@@ -53,6 +53,8 @@ pub record GatesAloneLaws : Type 0 where
       → IsTrueOf (gates_obligation n gates before after)
   pub different : (n : ℕ) (gates : List Gate) (before after : List Amplitude) → (IsZeroVector (apply_gates n gates before) → ⊥)
       → (Proportional (apply_gates n gates before) after → ⊥) → IsRefutation (gates_obligation n gates before after) (gates_shown n gates before)
+  pub counterexample : (n : ℕ) (gates : List Gate) (before after : List Amplitude) → (IsZeroVector (apply_gates n gates before) → ⊥)
+    → (Proportional (apply_gates n gates before) after → ⊥) → IsCounterexample (gates_obligation n gates before after) (gates_shown n gates before)
   pub wide_gate : (n : ℕ) (gates : List Gate) (before after : List Amplitude) (step : Played) → Contains (played_gates n gates before) step
       → (FitsGate n step.gate step.before → ⊥) → IsWide (gates_obligation n gates before after)
   pub wide_product : (n : ℕ) (gates : List Gate) (before after : List Amplitude) (left right : Amplitude) → Contains (apply_gates n gates before) left

@@ -43,3 +43,21 @@ abbrev pub IsTrueOf : Obligation → Type 0
 IsTrueOf o = (bits : List Bool) (v : List Amplitude) (outcomes : List Bool) → IsStart o bits v → IsWhole (run_of o bits v outcomes)
     → (IsZeroVector (run_of o bits v outcomes).last.vector → ⊥)
     → Holds o.goal (run_of o bits v outcomes).last.bits (run_of o bits v outcomes).last.vector
+
+-- what a refutation shows: a state, outcomes, and the end of the run from the state under them
+pub record Shown : Type 0 where
+  pub bits : List Bool
+  pub state : List Amplitude
+  pub outcomes : List Bool
+  pub end_bits : List Bool
+  pub end : List Amplitude
+
+-- The state is one of the assumption, the run of the fragment from it uses the outcomes up and ends in what is shown, and
+-- that end isn't zero and isn't allowed by the goal. So the obligation isn't true.
+pub record IsCounterexample (o : Obligation) (s : Shown) : Type 0 where
+  pub start : IsStart o s.bits s.state
+  pub whole : IsWhole (run_of o s.bits s.state s.outcomes)
+  pub end_bits_are : s.end_bits ≡ (run_of o s.bits s.state s.outcomes).last.bits
+  pub end_is : s.end ≡ (run_of o s.bits s.state s.outcomes).last.vector
+  pub nonzero : IsZeroVector s.end → ⊥
+  pub escapes : Holds o.goal s.end_bits s.end → ⊥

@@ -14,7 +14,7 @@ use Rattle.aq_prog.specs.declared.stmt.Guard.{Guard}
 use Rattle.aq_prog.specs.declared.stmt.Stmt.{Stmt, fold-Stmt}
 use Rattle.aq_prog.specs.declared.stmt.Stmt.TheOpen.{Stmt-F}
 use Rattle.aq_obligations.specs.Claims.{ClaimCase, Holds}
-use Rattle.aq_obligations.specs.Obligations.{Obligation, run_of}
+use Rattle.aq_obligations.specs.Obligations.{Obligation, Shown, run_of}
 
 -- bits of which some are known
 abbrev pub Partial : Type 0
@@ -146,14 +146,6 @@ filled bits = map (λ b. unwrap_or b false) bits
 -- a vector of a world doesn't escape the goal
 abbrev pub IsKept : Obligation → World → List Amplitude → Type 0
 IsKept o w v = IsZeroVector v ⊎ Holds o.goal (filled w.bits) v
-
--- what a refutation shows: a state of the assumption, outcomes, and the end of the run
-pub record Shown : Type 0 where
-  pub bits : List Bool
-  pub state : List Amplitude
-  pub outcomes : List Bool
-  pub end_bits : List Bool
-  pub end : List Amplitude
 
 -- The refutation: the first world that has a vector which escapes the goal, and in it the first such place.
 pub record IsRefutation (o : Obligation) (r : Shown) : Type 0 where

@@ -1,0 +1,27 @@
+-- When a verdict is justified.
+use Rattle.std.specs.Prelude.{◌≡◌}
+use Rattle.aq_obligations.specs.Obligations.{Obligation, Shown, IsTrueOf, IsCounterexample}
+use Rattle.aq_obligations.specs.Wide.{IsWide}
+use Rattle.aq_obligations.specs.Worlds.{IsRefutation}
+use Rattle.aq_report.specs.declared.verdict.Refutation.{Refutation}
+use Rattle.aq_report.specs.declared.verdict.Verdict.{Verdict}
+use Rattle.aq_report.specs.declared.verdict.Verdict.TheVariants as verdict
+use Rattle.aq_report.specs.declared.verdict.Why.TheVariants as why
+
+abbrev pub shown_by : Refutation → Shown
+shown_by r = record { bits = r.bits; state = r.state.amps; outcomes = r.outcomes; end_bits = r.end_bits; end = r.end.amps }
+
+-- What is shown is the obligation's one refutation, over its qubits. So the run from the state shown, under the outcomes
+-- shown, ends in what is shown; and no nonzero multiple of that end is allowed by the goal.
+pub record IsRefutedBy (o : Obligation) (r : Refutation) : Type 0 where
+  pub state_qubits : r.state.qubits ≡ o.qubits
+  pub end_qubits : r.end.qubits ≡ o.qubits
+  pub refutation : IsRefutation o (shown_by r)
+  pub counterexample : IsCounterexample o (shown_by r)
+
+-- Want of memory is the one free answer.
+abbrev pub IsJustified : Obligation → Verdict → Type 0
+IsJustified o verdict.Verified = IsTrueOf o
+IsJustified o (verdict.Refuted r) = IsRefutedBy o r
+IsJustified o (verdict.GaveUp why.Width) = IsWide o
+IsJustified o (verdict.GaveUp why.Memory) = Unit {0}

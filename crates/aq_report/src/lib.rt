@@ -1,0 +1,8 @@
+//! Verdicts, when they are justified, and the report of them.
+#![tactic(auto)]
+
+mod print;
+mod verdict;
+
+pub use print::{print_summary, print_verdict};
+pub use verdict::{Refutation, Verdict, Why};
