@@ -158,6 +158,7 @@ impl Coefficient {
     }
 
     /// The four terms added from left to right. None exactly where a sum on the way is out of range.
+    #[inline(always)]
     pub(crate) fn add_terms(
         self,
         second: Coefficient,
