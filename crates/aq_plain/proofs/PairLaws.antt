@@ -236,14 +236,15 @@ IsPartly-step n gate old new next x w a valid size h first c part e =
     rw (e ∙ ap (λ k. written k gate new x) a) (IsPartly-written n gate old new x valid size h first c part)
 
 -- ---- rows that always fit
-pub fits_by_rows : (n : ℕ) (gate : Gate) (v : List Amplitude) → AlwaysFits (entry_at gate.rows 0 0) (entry_at gate.rows 0 1) → AlwaysFits (entry_at gate.rows 1 0) (entry_at gate.rows 1 1) → FitsGate n gate v
+pub fits_by_rows : (n : ℕ) (gate : Gate) (v : List Amplitude) → AlwaysFits (entry_at gate.matrix.rows 0 0) (entry_at gate.matrix.rows 0 1) → AlwaysFits (entry_at gate.matrix.rows 1 0) (entry_at gate.matrix.rows 1 1) → FitsGate n gate v
 fits_by_rows n gate v top bottom = record { at = λ x h. of_row x (row_at x) }
   where
     of_row : (x : ℕ) → AlwaysFits (row_entry n gate x 0) (row_entry n gate x 1) → FitsGateAt n gate v x
     of_row x h = let f = h.on (paired n gate v x 0) (paired n gate v x 1) in record { left = λ c. f.left; right = λ c. f.right; sums = λ c. f.sums }
+
     row_at : (x : ℕ) → AlwaysFits (row_entry n gate x 0) (row_entry n gate x 1)
     row_at x = ⊎_elim
-        (λ (e : digit n gate.target x ≡ 0). subst (λ (d : ℕ). AlwaysFits (entry_at gate.rows d 0) (entry_at gate.rows d 1)) (sym e) top)
+        (λ (e : digit n gate.target x ≡ 0). subst (λ (d : ℕ). AlwaysFits (entry_at gate.matrix.rows d 0) (entry_at gate.matrix.rows d 1)) (sym e) top)
         (λ (e : digit n gate.target x ≢ 0). let one : 1 ≡ digit n gate.target x = (let b = digit-below n gate.target x in omega arith) in
-            subst (λ (d : ℕ). AlwaysFits (entry_at gate.rows d 0) (entry_at gate.rows d 1)) one bottom)
+        subst (λ (d : ℕ). AlwaysFits (entry_at gate.matrix.rows d 0) (entry_at gate.matrix.rows d 1)) one bottom)
         (cases_eq (digit n gate.target x) 0)
