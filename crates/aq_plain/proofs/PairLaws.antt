@@ -1,13 +1,12 @@
 -- A gate played in place, pair by pair.
-use Rattle.std.proofs.Common.{◌≡◌, ◌≢◌, ◌⊎◌, ℕ, zero, suc, ◌+◌, ◌-◌, ◌*◌, ◌^◌, ◌<◌, ◌≤◌, true, false, cond, List, Result, length, get_or, set, refl, sym, ap, ◌∙◌, subst, ⊎_elim, arith}
-use Rattle.std.proofs.lemmas.Bool.{cases_lt, cases_eq}
+use Rattle.std.proofs.Common.{◌≡◌, ◌≢◌, ℕ, ◌+◌, ◌-◌, ◌*◌, ◌^◌, ◌<◌, ◌≤◌, true, false, cond, List, Result, length, get_or, set, refl, sym, ap, ◌∙◌, subst, ⊎_elim, arith}
+use Rattle.std.proofs.lemmas.Bool.{cases_eq}
 use Rattle.std.proofs.lemmas.List.{get_or-set_same, get_or-set_other, length-set, ext_get_or, get_or_read}
 use Rattle.aq_ring.specs.Fractions.{Amplitude}
-use Rattle.aq_ring.specs.Amplitudes.{amplitude_zero, sum, turn, FitsSum}
+use Rattle.aq_ring.specs.Amplitudes.{amplitude_zero, sum}
 use Rattle.aq_prog.specs.Digits.{weight, digit, with_digit, amplitude_at}
-use Rattle.aq_prog.specs.Gates.{term, term_at, entry_at, is_controlled, gate_entry, apply_gate, IsValidGate, FitsGate, FitsGateAt, FitsTerm, FitsDivided}
+use Rattle.aq_prog.specs.Gates.{term_at, entry_at, is_controlled, gate_entry, apply_gate, IsValidGate, FitsGate, FitsGateAt}
 use Rattle.aq_prog.specs.declared.gate.Entry.{Entry}
-use Rattle.aq_prog.specs.declared.gate.Entry.TheVariants as entry
 use Rattle.aq_prog.specs.declared.gate.Gate.{Gate}
 use Rattle.aq_prog.proofs.DigitLaws.{weight-positive, digit-below, digit-with_digit, with_digit-with_digit, with_digit-own, with_digit-below, controlled-other, length-tabulate, get_or-tabulate}
 use Rattle.aq_plain.specs.Wide.{AlwaysFits, FitsRow, FitsRowOf, row_of, RowGives, row_entry, paired}

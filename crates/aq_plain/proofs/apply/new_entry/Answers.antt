@@ -1,4 +1,3 @@
-use Rattle.std.proofs.Common.{arith}
 use Rattle.aq_plain.proofs.PairLaws.{high-below, read-low, read-high, RowGives-same}
 use Rattle.aq_plain.proofs.apply.new_entry.Goals as goal
 
