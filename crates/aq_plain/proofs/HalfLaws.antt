@@ -1,10 +1,9 @@
 -- A projection made in place, index by index.
-use Rattle.std.proofs.Common.{◌≡◌, ◌≢◌, ℕ, ◌+◌, ◌<◌, ◌≤◌, Bool, true, false, cond, eqb, List, length, set, refl, sym, ap, ◌∙◌, ⊎_elim, arith}
-use Rattle.std.proofs.lemmas.Bool.{cases_eq}
-use Rattle.std.proofs.lemmas.List.{get_or-set_same, get_or-set_other, length-set, ext_get_or}
+use Rattle.std.proofs.Common.{◌≡◌, ℕ, ◌<◌, ◌≤◌, Bool, cond, eqb, List, length, refl, sym, ◌∙◌, arith}
+use Rattle.std.proofs.lemmas.List.{ext_get_or}
 use Rattle.aq_ring.specs.Fractions.{Amplitude}
 use Rattle.aq_ring.specs.Amplitudes.{amplitude_zero}
-use Rattle.aq_prog.specs.Digits.{digit, amplitude_at, tabulate}
+use Rattle.aq_prog.specs.Digits.{digit, amplitude_at}
 use Rattle.aq_prog.specs.Gates.{project}
 use Rattle.aq_prog.proofs.DigitLaws.{length-tabulate, get_or-tabulate}
 

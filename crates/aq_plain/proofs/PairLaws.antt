@@ -1,13 +1,12 @@
 -- A gate played in place, pair by pair.
-use Rattle.std.proofs.Common.{◌≡◌, ◌≢◌, ◌⊎◌, ℕ, zero, suc, ◌+◌, ◌-◌, ◌*◌, ◌^◌, ◌<◌, ◌≤◌, true, false, cond, List, Result, length, get_or, set, refl, sym, ap, ◌∙◌, subst, ⊎_elim, arith}
-use Rattle.std.proofs.lemmas.Bool.{cases_lt, cases_eq}
+use Rattle.std.proofs.Common.{◌≡◌, ◌≢◌, ℕ, ◌+◌, ◌-◌, ◌*◌, ◌^◌, ◌<◌, ◌≤◌, true, false, cond, List, Result, length, get_or, set, refl, sym, ap, ◌∙◌, subst, ⊎_elim, arith}
+use Rattle.std.proofs.lemmas.Bool.{cases_eq}
 use Rattle.std.proofs.lemmas.List.{get_or-set_same, get_or-set_other, length-set, ext_get_or, get_or_read}
 use Rattle.aq_ring.specs.Fractions.{Amplitude}
-use Rattle.aq_ring.specs.Amplitudes.{amplitude_zero, sum, turn, FitsSum}
+use Rattle.aq_ring.specs.Amplitudes.{amplitude_zero, sum}
 use Rattle.aq_prog.specs.Digits.{weight, digit, with_digit, amplitude_at}
-use Rattle.aq_prog.specs.Gates.{term, term_at, entry_at, is_controlled, gate_entry, apply_gate, IsValidGate, FitsGate, FitsGateAt, FitsTerm, FitsDivided}
+use Rattle.aq_prog.specs.Gates.{term_at, entry_at, is_controlled, gate_entry, apply_gate, IsValidGate, FitsGate, FitsGateAt}
 use Rattle.aq_prog.specs.declared.gate.Entry.{Entry}
-use Rattle.aq_prog.specs.declared.gate.Entry.TheVariants as entry
 use Rattle.aq_prog.specs.declared.gate.Gate.{Gate}
 use Rattle.aq_prog.proofs.DigitLaws.{weight-positive, digit-below, digit-with_digit, with_digit-with_digit, with_digit-own, with_digit-below, controlled-other, length-tabulate, get_or-tabulate}
 use Rattle.aq_plain.specs.Wide.{AlwaysFits, FitsRow, FitsRowOf, row_of, RowGives, row_entry, paired}
@@ -236,14 +235,15 @@ IsPartly-step n gate old new next x w a valid size h first c part e =
     rw (e ∙ ap (λ k. written k gate new x) a) (IsPartly-written n gate old new x valid size h first c part)
 
 -- ---- rows that always fit
-pub fits_by_rows : (n : ℕ) (gate : Gate) (v : List Amplitude) → AlwaysFits (entry_at gate.rows 0 0) (entry_at gate.rows 0 1) → AlwaysFits (entry_at gate.rows 1 0) (entry_at gate.rows 1 1) → FitsGate n gate v
+pub fits_by_rows : (n : ℕ) (gate : Gate) (v : List Amplitude) → AlwaysFits (entry_at gate.matrix.rows 0 0) (entry_at gate.matrix.rows 0 1) → AlwaysFits (entry_at gate.matrix.rows 1 0) (entry_at gate.matrix.rows 1 1) → FitsGate n gate v
 fits_by_rows n gate v top bottom = record { at = λ x h. of_row x (row_at x) }
   where
     of_row : (x : ℕ) → AlwaysFits (row_entry n gate x 0) (row_entry n gate x 1) → FitsGateAt n gate v x
     of_row x h = let f = h.on (paired n gate v x 0) (paired n gate v x 1) in record { left = λ c. f.left; right = λ c. f.right; sums = λ c. f.sums }
+
     row_at : (x : ℕ) → AlwaysFits (row_entry n gate x 0) (row_entry n gate x 1)
     row_at x = ⊎_elim
-        (λ (e : digit n gate.target x ≡ 0). subst (λ (d : ℕ). AlwaysFits (entry_at gate.rows d 0) (entry_at gate.rows d 1)) (sym e) top)
+        (λ (e : digit n gate.target x ≡ 0). subst (λ (d : ℕ). AlwaysFits (entry_at gate.matrix.rows d 0) (entry_at gate.matrix.rows d 1)) (sym e) top)
         (λ (e : digit n gate.target x ≢ 0). let one : 1 ≡ digit n gate.target x = (let b = digit-below n gate.target x in omega arith) in
-            subst (λ (d : ℕ). AlwaysFits (entry_at gate.rows d 0) (entry_at gate.rows d 1)) one bottom)
+        subst (λ (d : ℕ). AlwaysFits (entry_at gate.matrix.rows d 0) (entry_at gate.matrix.rows d 1)) one bottom)
         (cases_eq (digit n gate.target x) 0)

@@ -19,27 +19,30 @@ all_more : (P : ℕ → Type 0) (c : ℕ) (cs : List ℕ) → P c → All P cs �
 all_more P c cs p h zero d lt = p
 all_more P c cs p h (suc k) d lt = h k d (omega arith)
 
-pub valid_alone : (n : ℕ) (gate : Gate) → gate.controls ≡ [] → AreEntries gate.rows → gate.target < n → IsValidGate n gate
+pub valid_alone : (n : ℕ) (gate : Gate) → gate.controls ≡ [] → AreEntries gate.matrix.rows → gate.target < n → IsValidGate n gate
 unfolding IsDistinct
 valid_alone n gate e entries target = record {
-  entries = entries; target = target;
+  entries = entries;
+  target = target;
   controls = rw e (all_none (IsControl n gate.target));
   distinct = rw e tt;
 }
 
-pub valid_one : (n a : ℕ) (gate : Gate) → gate.controls ≡ a ∷ [] → AreEntries gate.rows → gate.target < n → a < n → a ≢ gate.target → IsValidGate n gate
+pub valid_one : (n a : ℕ) (gate : Gate) → gate.controls ≡ a ∷ [] → AreEntries gate.matrix.rows → gate.target < n → a < n → a ≢ gate.target → IsValidGate n gate
 unfolding IsDistinct
 valid_one n a gate e entries target lt ne = record {
-  entries = entries; target = target;
+  entries = entries;
+  target = target;
   controls = rw e (all_more (IsControl n gate.target) a [] (lt, ne) (all_none (IsControl n gate.target)));
   distinct = rw e (tt, tt);
 }
 
-pub valid_two : (n a b : ℕ) (gate : Gate) → gate.controls ≡ a ∷ b ∷ [] → AreEntries gate.rows → gate.target < n → a < n → b < n
+pub valid_two : (n a b : ℕ) (gate : Gate) → gate.controls ≡ a ∷ b ∷ [] → AreEntries gate.matrix.rows → gate.target < n → a < n → b < n
     → a ≢ gate.target → b ≢ gate.target → a ≢ b → IsValidGate n gate
 unfolding IsDistinct
 valid_two n a b gate e entries target in_a in_b ne_a ne_b ne = record {
-  entries = entries; target = target;
+  entries = entries;
+  target = target;
   controls = rw e (all_more (IsControl n gate.target) a (b ∷ []) (in_a, ne_a) (all_more (IsControl n gate.target) b [] (in_b, ne_b) (all_none (IsControl n gate.target))));
   distinct = rw e ((differs a b ne, tt), (tt, tt));
 }

@@ -64,14 +64,14 @@ RowGives e f p q result = MatchResult result (λ r. FitsRow e f p q × (r ≡ su
 
 -- a row of a gate's matrix on two amplitudes
 abbrev pub FitsRowOf : Gate → ℕ → Amplitude → Amplitude → Type 0
-FitsRowOf gate row p q = FitsRow (entry_at gate.rows row 0) (entry_at gate.rows row 1) p q
+FitsRowOf gate row p q = FitsRow (entry_at gate.matrix.rows row 0) (entry_at gate.matrix.rows row 1) p q
 
 abbrev pub row_of : Gate → ℕ → Amplitude → Amplitude → Amplitude
-row_of gate row p q = sum (term (entry_at gate.rows row 0) p) (term (entry_at gate.rows row 1) q)
+row_of gate row p q = sum (term (entry_at gate.matrix.rows row 0) p) (term (entry_at gate.matrix.rows row 1) q)
 
 -- the entry of a gate's matrix in the row of the index
 abbrev pub row_entry : ℕ → Gate → ℕ → ℕ → Entry
-row_entry n gate x column = entry_at gate.rows (digit n gate.target x) column
+row_entry n gate x column = entry_at gate.matrix.rows (digit n gate.target x) column
 
 -- the amplitude at the index with the target's digit set to the column
 abbrev pub paired : ℕ → Gate → List Amplitude → ℕ → ℕ → Amplitude

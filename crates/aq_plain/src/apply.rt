@@ -35,8 +35,8 @@ fn find_wide(amps: &[Amp], qubits: u32, gate: &Gate) -> Option<WideSum>
     requires sizes { IsStateVector qubits amps.now }
     ensures { MatchOption result (FitsGate qubits gate.now amps.now) (λ w. IsFirstWide qubits gate.now amps.now w.left w.right) }
 {
-    if always_fits(gate.rows[0][0], gate.rows[0][1])
-        && always_fits(gate.rows[1][0], gate.rows[1][1])
+    if always_fits(gate.matrix.rows[0][0], gate.matrix.rows[0][1])
+        && always_fits(gate.matrix.rows[1][0], gate.matrix.rows[1][1])
     {
         return None;
     }
@@ -75,7 +75,7 @@ fn new_entry(amps: &[Amp], qubits: u32, gate: &Gate, index: usize) -> Result<Amp
     let weight = weight_of(qubits, gate.target);
     let digit = digit_of(index, qubits, gate.target);
     let low = index - digit * weight;
-    let row = gate.rows[digit];
+    let row = gate.matrix.rows[digit];
     row_sum(row[0], row[1], amps[low], amps[low + weight])
 }
 
@@ -98,7 +98,7 @@ pub(crate) fn write_gate(amps: &mut [Amp], qubits: u32, gate: &Gate)
 
 /// Writes the two new amplitudes at the index and so far behind it.
 fn write_pair(amps: &mut [Amp], gate: &Gate, low: usize, weight: usize)
-    requires entries { AreEntries gate.now.rows }
+    requires entries { AreEntries gate.now.matrix.rows }
     requires within { low + weight < length amps.old }
     requires apart { 0 < weight }
     requires top { FitsRowOf gate.now 0 (amplitude_at amps.old low) (amplitude_at amps.old (low + weight)) }
@@ -107,6 +107,6 @@ fn write_pair(amps: &mut [Amp], gate: &Gate, low: usize, weight: usize)
         (low + weight) (row_of gate.now 1 (amplitude_at amps.old low) (amplitude_at amps.old (low + weight))) }
 {
     let (left, right) = (amps[low], amps[low + weight]);
-    amps[low] = fitting_sum(gate.rows[0][0], gate.rows[0][1], left, right);
-    amps[low + weight] = fitting_sum(gate.rows[1][0], gate.rows[1][1], left, right);
+    amps[low] = fitting_sum(gate.matrix.rows[0][0], gate.matrix.rows[0][1], left, right);
+    amps[low + weight] = fitting_sum(gate.matrix.rows[1][0], gate.matrix.rows[1][1], left, right);
 }

@@ -5,6 +5,8 @@ mod apply;
 mod places;
 mod project;
 mod row;
+#[cfg(test)]
+mod tests;
 mod vector;
 
 pub use apply::apply_plain;

@@ -53,7 +53,7 @@ gate_entry-scaled n g s v x =
     ∙ if_scaled s (is_controlled n g.controls x) _ _
   where
     of : (column : ℕ) → term_at n g (scaled s v) x column ≡ product s (term_at n g v x column)
-    of column = ap (term (entry_at g.rows (digit n g.target x) column)) (amplitude_at-scaled s v (with_digit n g.target column x)) ∙ term-scaled (entry_at g.rows (digit n g.target x) column) s _
+    of column = ap (term (entry_at g.matrix.rows (digit n g.target x) column)) (amplitude_at-scaled s v (with_digit n g.target column x)) ∙ term-scaled (entry_at g.matrix.rows (digit n g.target x) column) s _
 
 pub apply_gate-scaled : (n : ℕ) (g : Gate) (s : Amplitude) (v : List Amplitude) → apply_gate n g (scaled s v) ≡ scaled s (apply_gate n g v)
 unfolding apply_gate
@@ -104,7 +104,7 @@ apply_gate-zero n g v h = tabulate-zero (length v) (gate_entry n g v)
     ∙ ap (λ t. cond (is_controlled n g.controls x) t amplitude_zero) (sum-zero amplitude_zero) ∙ same_if (is_controlled n g.controls x) amplitude_zero)
   where
     of : (x column : ℕ) → term_at n g v x column ≡ amplitude_zero
-    of x column = ap (term (entry_at g.rows (digit n g.target x) column)) (zero_at v h (with_digit n g.target column x)) ∙ term-zero _
+    of x column = ap (term (entry_at g.matrix.rows (digit n g.target x) column)) (zero_at v h (with_digit n g.target column x)) ∙ term-zero _
 
 pub project-zero : (n q : ℕ) (outcome : Bool) (v : List Amplitude) → IsZeroVector v → IsZeroVector (project n q outcome v)
 unfolding project

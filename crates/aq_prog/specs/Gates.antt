@@ -28,7 +28,7 @@ is_controlled n controls x = list_all (λ c. digit n c x == 1) controls
 
 -- the term of a gate at an index, from the amplitude whose target digit is the column
 abbrev pub term_at : ℕ → Gate → List Amplitude → ℕ → ℕ → Amplitude
-term_at n gate v x column = term (entry_at gate.rows (digit n gate.target x) column) (amplitude_at v (with_digit n gate.target column x))
+term_at n gate v x column = term (entry_at gate.matrix.rows (digit n gate.target x) column) (amplitude_at v (with_digit n gate.target column x))
 
 -- the new amplitude at an index: the matrix row of the target's digit times the two amplitudes that differ in that digit
 abbrev pub gate_entry : ℕ → Gate → List Amplitude → ℕ → Amplitude
@@ -50,7 +50,7 @@ abbrev pub flip_gate : ℕ → Gate
 flip_gate qubit = record {
   controls = [];
   target = qubit;
-  rows = (entry.Zero ∷ entry.Unit 0 0 ∷ []) ∷ (entry.Unit 0 0 ∷ entry.Zero ∷ []) ∷ [];
+  matrix = record { rows = (entry.Zero ∷ entry.Unit 0 0 ∷ []) ∷ (entry.Unit 0 0 ∷ entry.Zero ∷ []) ∷ [] };
 }
 
 -- each of so many divisions fits
@@ -65,8 +65,8 @@ FitsTerm (entry.Unit j e) p = FitsDivided e (turn j p)
 
 -- at an index, the divisions of both terms and their sum fit
 pub record FitsGateAt (n : ℕ) (gate : Gate) (v : List Amplitude) (x : ℕ) : Type 0 where
-  pub left : is_controlled n gate.controls x ≡ true → FitsTerm (entry_at gate.rows (digit n gate.target x) 0) (amplitude_at v (with_digit n gate.target 0 x))
-  pub right : is_controlled n gate.controls x ≡ true → FitsTerm (entry_at gate.rows (digit n gate.target x) 1) (amplitude_at v (with_digit n gate.target 1 x))
+  pub left : is_controlled n gate.controls x ≡ true → FitsTerm (entry_at gate.matrix.rows (digit n gate.target x) 0) (amplitude_at v (with_digit n gate.target 0 x))
+  pub right : is_controlled n gate.controls x ≡ true → FitsTerm (entry_at gate.matrix.rows (digit n gate.target x) 1) (amplitude_at v (with_digit n gate.target 1 x))
   pub sums : is_controlled n gate.controls x ≡ true → FitsSum (term_at n gate v x 0) (term_at n gate v x 1)
 
 -- they fit at every index
@@ -84,7 +84,7 @@ AreEntries rows = (row column : ℕ) → IsEntry (entry_at rows row column)
 
 -- a gate on n qubits: its entries keep their bounds, and its target and its controls are different qubits below n
 pub record IsValidGate (n : ℕ) (gate : Gate) : Type 0 where
-  pub entries : AreEntries gate.rows
+  pub entries : AreEntries gate.matrix.rows
   pub target : gate.target < n
   pub controls : All (λ c. (c < n) × (c ≢ gate.target)) gate.controls
   pub distinct : IsDistinct nat_eq gate.controls

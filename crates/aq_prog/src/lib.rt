@@ -6,6 +6,6 @@ pub mod laws;
 mod stmt;
 mod table;
 
-pub use gate::{Entry, Gate};
+pub use gate::{Entry, Gate, Matrix};
 pub use stmt::{Guard, Stmt};
 pub use table::{Rows, gate_named};

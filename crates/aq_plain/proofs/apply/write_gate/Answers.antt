@@ -1,5 +1,5 @@
-use Rattle.std.proofs.Common.{◌≡◌, ◌≢◌, ◌∙◌, sym, subst, arith}
-use Rattle.aq_plain.proofs.PairLaws.{second_below, top_fits, bottom_fits, IsPartly, IsPartly-second, IsPartly-stays, IsPartly-step, IsPartly-all}
+use Rattle.std.proofs.Common.{◌∙◌, sym, arith}
+use Rattle.aq_plain.proofs.PairLaws.{second_below, top_fits, bottom_fits, IsPartly-second, IsPartly-stays, IsPartly-step, IsPartly-all}
 use Rattle.aq_plain.proofs.apply.write_gate.Goals as goal
 use Rattle.aq_plain.proofs.apply.write_gate.Goals.{then-digit_of-eq0+then-has_controls, else-digit_of-eq0, else-digit_of-eq0-via-then-digit_of-eq0+else-has_controls, else-digit_of-eq0-via-else-digit_of-eq0}
 
