@@ -4,3 +4,4 @@ pub mod HeadLaws
 pub mod CallsLaws
 pub mod SetLaws
 pub mod ClaimLaws
+pub mod IndexLaws

@@ -1,4 +1,4 @@
-ghost use Rattle.std.specs.Prelude.{◌≡◌, ◌≤◌, ◌<◌, ◌+◌, ◌^◌, ◌∷◌, [], ℕ, List, IfOk, IfErr, OnOk, length, map, option_map, codes, true};
+ghost use Rattle.std.specs.Prelude.{◌≡◌, ◌≤◌, ◌<◌, ◌+◌, ◌^◌, ◌∷◌, [], ℕ, List, IfOk, IfErr, OnOk, length, map, option_map, codes, true, All};
 ghost use Rattle.std.specs.List.{prefix_len};
 ghost use Rattle.aq_thin.specs.SetTexts.{is_binary, binary_after, index_of, no_repeats, AreTerms, IsClaim, IsThinSets};
 ghost use Rattle.aq_thin.specs.Pieces.{is_solid};
@@ -179,6 +179,9 @@ fn claim_at<'a>(
 pub fn read_sets(alloc: Global, source: &[u8], qubits: u32) -> Result<ThinSets, ThinFault>
     requires { qubits ≤ 16 }
     ensures thin { IfOk result (λ s. IsThinSets source.now qubits s.before s.after) }
+    // Each index is that of a ket.
+    ensures before_within { IfOk result (λ s. All (λ t. t.index < 2 ^ qubits) s.before) }
+    ensures after_within { IfOk result (λ s. All (λ t. t.index < 2 ^ qubits) s.after) }
     ensures not_thin { IfErr result (λ e. e ≡ ThinFault.NotThin → (before after : List ThinTerm) → IsThinSets source.now qubits before after → ⊥) }
 {
     let (before, between) = claim_at(alloc, b"pre", qubits, source)?;

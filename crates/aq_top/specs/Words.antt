@@ -12,3 +12,6 @@ abbrev pub check_words : List (List ℕ) → Option CheckWords
 check_words (command ∷ program ∷ sets ∷ []) =
     if bytes_eq command (codes "check") then Some (record { program = program; sets = sets }) else None
 check_words _ = None
+
+abbrev pub files : List ℕ → List ℕ → CheckWords
+files program sets = record { program = program; sets = sets }

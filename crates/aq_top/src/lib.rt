@@ -5,6 +5,7 @@ mod build;
 
 mod judge;
 mod load;
+mod say;
 
 mod status;
 
