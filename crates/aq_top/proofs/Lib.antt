@@ -1,2 +1,3 @@
 pub mod BuildLemmas
 pub mod JudgeLemmas
+pub mod SayLemmas

@@ -46,6 +46,13 @@ pub record ReadsProgram (told : Option Held) (name : List ℕ) (n : ℕ) (calls 
   pub fits : length bytes ≤ most_program
   pub thin : IsThinProgram bytes n calls
 
+-- the sets' file was read, and is a thin set text for so many qubits
+pub record ReadsSets (told : Option Held) (name : List ℕ) (n : ℕ) (before after : List ThinTerm) : Type 0 where
+  pub bytes : List ℕ
+  pub held : MayHold told name bytes
+  pub fits : length bytes ≤ most_sets
+  pub thin : IsThinSets bytes n before after
+
 -- both files were read, and say this
 pub record ReadsTask (told : Option Held) (words : CheckWords) (t : Task) : Type 0 where
   pub program : List ℕ
@@ -86,6 +93,26 @@ HasCause told ReadFailed words stop.SetsFault = ReadFailed words.sets
 HasCause told ReadFailed words stop.SetsTooLong = BehindProgram told words.program (λ n. IsLonger told words.sets most_sets)
 HasCause told ReadFailed words stop.SetsUnbuilt = BehindProgram told words.program (λ n. NotThinSets told words.sets n)
 HasCause told ReadFailed words stop.Memory = Unit {0}
+
+-- why the program isn't read
+abbrev pub ProgramCause : Option Held → (List ℕ → Type 0) → List ℕ → Stop → Type 0
+ProgramCause told ReadFailed name stop.ProgramFault = ReadFailed name
+ProgramCause told ReadFailed name stop.ProgramTooLong = IsLonger told name most_program
+ProgramCause told ReadFailed name stop.ProgramUnbuilt = NotThinProgram told name
+ProgramCause told ReadFailed name stop.SetsFault = ⊥
+ProgramCause told ReadFailed name stop.SetsTooLong = ⊥
+ProgramCause told ReadFailed name stop.SetsUnbuilt = ⊥
+ProgramCause told ReadFailed name stop.Memory = Unit {0}
+
+-- why the sets aren't read
+abbrev pub SetsCause : Option Held → (List ℕ → Type 0) → List ℕ → ℕ → Stop → Type 0
+SetsCause told ReadFailed name n stop.ProgramFault = ⊥
+SetsCause told ReadFailed name n stop.ProgramTooLong = ⊥
+SetsCause told ReadFailed name n stop.ProgramUnbuilt = ⊥
+SetsCause told ReadFailed name n stop.SetsFault = ReadFailed name
+SetsCause told ReadFailed name n stop.SetsTooLong = IsLonger told name most_sets
+SetsCause told ReadFailed name n stop.SetsUnbuilt = NotThinSets told name n
+SetsCause told ReadFailed name n stop.Memory = Unit {0}
 
 -- the line for it
 abbrev pub stop_text : CheckWords → Stop → List ℕ
