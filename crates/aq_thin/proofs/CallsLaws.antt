@@ -27,6 +27,7 @@ pieces_leave (t ∷ ts) bytes rest p = omega (arith, piece_leaves t bytes p.0 p.
 
 name_some : (g : ThinName) → 0 < length (name_text g)
 name_some name.X = omega arith
+name_some name.Y = omega arith
 name_some name.H = omega arith
 name_some name.Z = omega arith
 name_some name.S = omega arith
@@ -108,6 +109,7 @@ blank_piece (b ∷ bs) bytes rest solid end p =
 
 name_solid : (g : ThinName) → is_solid (name_text g) ≡ true
 name_solid name.X = refl
+name_solid name.Y = refl
 name_solid name.H = refl
 name_solid name.Z = refl
 name_solid name.S = refl

@@ -8,6 +8,7 @@ use Rattle.aq_thin.specs.declared.call.ThinCall.{ThinCall}
 -- the name of a gate as it is written
 abbrev pub name_text : ThinName → List ℕ
 name_text name.X = codes "x"
+name_text name.Y = codes "y"
 name_text name.H = codes "h"
 name_text name.Z = codes "z"
 name_text name.S = codes "s"

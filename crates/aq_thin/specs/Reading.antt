@@ -63,11 +63,12 @@ with_name c (Some rest) = Some (c, rest)
 abbrev pub name_at : List ℕ → Option (Called × List ℕ)
 name_at bytes =
     or_else (with_name (called.Single name.X) (text_at (codes "x") bytes))
+    (or_else (with_name (called.Single name.Y) (text_at (codes "y") bytes))
     (or_else (with_name (called.Single name.H) (text_at (codes "h") bytes))
     (or_else (with_name (called.Single name.Z) (text_at (codes "z") bytes))
     (or_else (with_name (called.Single name.S) (text_at (codes "s") bytes))
     (or_else (with_name (called.Single name.T) (text_at (codes "t") bytes))
-    (with_name called.ControlledX (text_at (codes "cx") bytes))))))
+    (with_name called.ControlledX (text_at (codes "cx") bytes)))))))
 
 abbrev pub below : ℕ → ℕ → Option (List ℕ) → Option (ℕ × List ℕ)
 below n i None = None

@@ -2,6 +2,7 @@
 #[derive(Clone, Copy, Debug, PartialEq, Eq)]
 pub enum ThinName {
     X,
+    Y,
     H,
     Z,
     S,

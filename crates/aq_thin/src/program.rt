@@ -17,6 +17,9 @@ fn name_at<'a>(bytes: &'a [u8]) -> Option<(Called, &'a [u8])>
     if let Some(rest) = text_at(b"x", bytes) {
         return Some((Called::Single(ThinName::X), rest));
     }
+    if let Some(rest) = text_at(b"y", bytes) {
+        return Some((Called::Single(ThinName::Y), rest));
+    }
     if let Some(rest) = text_at(b"h", bytes) {
         return Some((Called::Single(ThinName::H), rest));
     }

@@ -17,6 +17,7 @@ use Rattle.aq_top.specs.Tasks.{gate_of, controls_of}
 -- every thin name is in the table
 pub in_table : (g : ThinName) → rows_named (name_text g) (pos 0) ≡ None → ⊥
 in_table name.X e = cc
+in_table name.Y e = cc
 in_table name.H e = cc
 in_table name.Z e = cc
 in_table name.S e = cc

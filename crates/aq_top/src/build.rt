@@ -16,6 +16,7 @@ fn name_of(name: ThinName) -> &'static [u8]
 {
     match name {
         ThinName::X => b"x",
+        ThinName::Y => b"y",
         ThinName::H => b"h",
         ThinName::Z => b"z",
         ThinName::S => b"s",
