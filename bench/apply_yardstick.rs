@@ -113,6 +113,14 @@ fn row_sum(row: [Entry; 2], left: Amp, right: Amp) -> Result<Amp, (Amp, Amp)> {
     left.sum(right).ok_or((left, right))
 }
 
+fn fitting_sum(row: [Entry; 2], left: Amp, right: Amp) -> Result<Amp, (Amp, Amp)> {
+    match row {
+        [Entry::Unit { turn, roots: 0 }, Entry::Zero] => Ok(left.turn(turn)),
+        [Entry::Zero, Entry::Unit { turn, roots: 0 }] => Ok(right.turn(turn)),
+        _ => row_sum(row, left, right),
+    }
+}
+
 fn always_fits(row: [Entry; 2]) -> bool {
     matches!(
         row,
@@ -145,8 +153,8 @@ fn apply(amps: &mut [Amp], qubits: u32, gate: &Gate) -> Result<(), (Amp, Amp)> {
     for x in 0..amps.len() {
         if digit(x, qubits, gate.target) == 0 && controlled(x) {
             let (left, right) = (amps[x], amps[x + weight]);
-            amps[x] = row_sum(gate.rows[0], left, right)?;
-            amps[x + weight] = row_sum(gate.rows[1], left, right)?;
+            amps[x] = fitting_sum(gate.rows[0], left, right)?;
+            amps[x + weight] = fitting_sum(gate.rows[1], left, right)?;
         }
     }
     Ok(())

@@ -4,9 +4,11 @@ use Rattle.std.proofs.lemmas.Bool.{cases_eq}
 use Rattle.std.proofs.lemmas.List.{get_or-set_same, get_or-set_other, length-set, ext_get_or, get_or_read}
 use Rattle.aq_ring.specs.Fractions.{Amplitude}
 use Rattle.aq_ring.specs.Amplitudes.{amplitude_zero, sum}
+use Rattle.aq_ring.proofs.AmplitudeLaws.{sum-zero, sum_comm}
 use Rattle.aq_prog.specs.Digits.{weight, digit, with_digit, amplitude_at}
-use Rattle.aq_prog.specs.Gates.{term_at, entry_at, is_controlled, gate_entry, apply_gate, IsValidGate, FitsGate, FitsGateAt}
+use Rattle.aq_prog.specs.Gates.{term, term_at, entry_at, is_controlled, gate_entry, apply_gate, IsValidGate, FitsGate, FitsGateAt}
 use Rattle.aq_prog.specs.declared.gate.Entry.{Entry}
+use Rattle.aq_prog.specs.declared.gate.Entry.TheVariants as entry
 use Rattle.aq_prog.specs.declared.gate.Gate.{Gate}
 use Rattle.aq_prog.proofs.DigitLaws.{weight-positive, digit-below, digit-with_digit, with_digit-with_digit, with_digit-own, with_digit-below, controlled-other, length-tabulate, get_or-tabulate}
 use Rattle.aq_plain.specs.Wide.{AlwaysFits, FitsRow, FitsRowOf, row_of, RowGives, row_entry, paired}
@@ -247,3 +249,10 @@ fits_by_rows n gate v top bottom = record { at = λ x h. of_row x (row_at x) }
         (λ (e : digit n gate.target x ≢ 0). let one : 1 ≡ digit n gate.target x = (let b = digit-below n gate.target x in omega arith) in
         subst (λ (d : ℕ). AlwaysFits (entry_at gate.matrix.rows d 0) (entry_at gate.matrix.rows d 1)) one bottom)
         (cases_eq (digit n gate.target x) 0)
+
+-- ---- a term beside zero
+pub zero_after : (e f : Entry) (p q r : Amplitude) → f ≡ entry.Zero → r ≡ term e p → r ≡ sum (term e p) (term f q)
+zero_after e f p q r z same = same ∙ sym (sum-zero (term e p)) ∙ sum_comm amplitude_zero (term e p) ∙ sym (ap (λ (g : Entry). sum (term e p) (term g q)) z)
+
+pub zero_before : (e f : Entry) (p q r : Amplitude) → e ≡ entry.Zero → r ≡ term f q → r ≡ sum (term e p) (term f q)
+zero_before e f p q r z same = same ∙ sym (sum-zero (term f q)) ∙ sym (ap (λ (g : Entry). sum (term g p) (term f q)) z)

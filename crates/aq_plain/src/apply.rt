@@ -87,10 +87,9 @@ pub(crate) fn write_gate(amps: &mut [Amp], qubits: u32, gate: &Gate)
     ensures { amps.new ≡ apply_gate qubits gate.now amps.old }
 {
     let weight = weight_of(qubits, gate.target);
+    let controls = gate.controls.as_slice();
     for index in 0..amps.len() {
-        if digit_of(index, qubits, gate.target) == 0
-            && has_controls(index, qubits, gate.controls.as_slice())
-        {
+        if digit_of(index, qubits, gate.target) == 0 && has_controls(index, qubits, controls) {
             write_pair(amps, gate, index, weight);
         }
     }

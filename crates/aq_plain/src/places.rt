@@ -5,6 +5,7 @@ ghost use Rattle.aq_prog.specs.Digits.{digit, weight};
 ghost use Rattle.aq_prog.specs.Gates.{is_controlled};
 
 /// What the qubit's digit counts for.
+#[inline]
 pub(crate) fn weight_of(qubits: u32, qubit: u32) -> usize
     requires few { qubits ≤ 16 }
     requires within { qubit < qubits }
@@ -14,6 +15,7 @@ pub(crate) fn weight_of(qubits: u32, qubit: u32) -> usize
 }
 
 /// The qubit's digit of the index.
+#[inline]
 pub(crate) fn digit_of(index: usize, qubits: u32, qubit: u32) -> usize
     requires few { qubits ≤ 16 }
     requires within { qubit < qubits }
@@ -23,6 +25,7 @@ pub(crate) fn digit_of(index: usize, qubits: u32, qubit: u32) -> usize
 }
 
 /// Whether each of the controls has digit 1.
+#[inline]
 pub(crate) fn has_controls(index: usize, qubits: u32, controls: &[u32]) -> bool
     requires few { qubits ≤ 16 }
     requires within { All (λ c. c < qubits) controls.now }

@@ -1,5 +1,5 @@
 //! A row of a gate's matrix on two amplitudes.
-ghost use Rattle.std.specs.Prelude.{◌≡◌, MatchResult};
+ghost use Rattle.std.specs.Prelude.{◌≡◌, IfSome, MatchResult};
 ghost use Rattle.std.specs.Bool.{OnTrue};
 ghost use Rattle.aq_ring.specs.Amplitudes.{sum};
 ghost use Rattle.aq_prog.specs.Gates.{divided, term, FitsDivided, FitsTerm, IsEntry};
@@ -81,14 +81,43 @@ pub(crate) fn always_fits(first: Entry, second: Entry) -> bool
 }
 
 /// The sum of the two terms, where it fits.
+#[tactic(auto, using(crate::proofs::PairLaws::zero_after, crate::proofs::PairLaws::zero_before))]
 pub(crate) fn fitting_sum(first: Entry, second: Entry, left: Amp, right: Amp) -> Amp
     requires first { IsEntry first }
     requires second { IsEntry second }
     requires fits { FitsRow first second left right }
     ensures { result ≡ sum (term first left) (term second right) }
 {
+    if second == Entry::Zero
+        && let Some(amp) = lone_term(first, left)
+    {
+        return amp;
+    }
+    if first == Entry::Zero
+        && let Some(amp) = lone_term(second, right)
+    {
+        return amp;
+    }
     match row_sum(first, second, left, right) {
         Ok(amp) => amp,
         Err(_) => unreachable!(),
+    }
+}
+
+/// What the entry makes of the amplitude, where it divides nothing.
+#[inline]
+fn lone_term(entry: Entry, amp: Amp) -> Option<Amp>
+    requires { IsEntry entry }
+    ensures { IfSome result (λ r. r ≡ term entry amp) }
+{
+    match entry {
+        Entry::Unit { turn, roots } => {
+            if roots == 0 {
+                Some(amp.turn(turn))
+            } else {
+                None
+            }
+        }
+        Entry::Zero => None,
     }
 }

@@ -1,0 +1,154 @@
+-- How a run ends: what is written in the end, and why.
+use Rattle.std.specs.Prelude.{◌≡◌, ℕ, ◌<◌, ◌≤◌, false, List, [], ◌∷◌, length, Option, Some, None, IfSome, ◌⊎◌}
+use Rattle.aq_world.specs.Causes.{Rose, Blame}
+use Rattle.aq_world.specs.Held.{Held, bytes_at}
+use Rattle.aq_world.specs.Prints.{IsPrefixOf}
+use Rattle.aq_obligations.specs.declared.kind.Kind.TheVariants as kind
+use Rattle.aq_report.specs.declared.verdict.Verdict.{Verdict}
+use Rattle.aq_report.specs.declared.verdict.Verdict.TheVariants as verdict
+use Rattle.aq_report.specs.Verdicts.{IsJustified}
+use Rattle.aq_report.specs.Texts.{report, Heading}
+use Rattle.aq_thin.specs.Programs.{IsThinProgram}
+use Rattle.aq_thin.specs.SetTexts.{IsThinSets}
+use Rattle.aq_thin.specs.declared.call.ThinCall.{ThinCall}
+use Rattle.aq_thin.specs.declared.term.ThinTerm.{ThinTerm}
+use Rattle.aq_top.specs.Lines.{usage_text, program_too_long, program_unbuilt, sets_too_long, sets_unbuilt, memory_line, read_fault_line}
+use Rattle.aq_top.specs.Tasks.{Task, IsTask, obligation_of}
+use Rattle.aq_top.specs.Words.{CheckWords}
+use Rattle.aq_top.specs.declared.load.Stop.{Stop}
+use Rattle.aq_top.specs.declared.load.Stop.TheVariants as stop
+use Rattle.aq_top.specs.declared.status.Status.{Status}
+use Rattle.aq_top.specs.declared.status.Status.TheVariants as status
+
+-- the longest program and the longest set text that are read, in bytes
+abbrev pub most_program : ℕ
+most_program = 1048576
+
+abbrev pub most_sets : ℕ
+most_sets = 4194304
+
+-- These may be the bytes of the file: they are, where the shelf tells them.
+abbrev pub MayHold : Option Held → List ℕ → List ℕ → Type 0
+MayHold told name bytes = IfSome told (λ held. bytes ≡ bytes_at held name)
+
+-- the file is longer than this, where the shelf tells it
+abbrev pub IsLonger : Option Held → List ℕ → ℕ → Type 0
+IsLonger told name most = IfSome told (λ held. most < length (bytes_at held name))
+
+-- the shelf's count rose in a read of this name
+abbrev pub ReadFailedOf : ℕ → ℕ → Blame → List ℕ → Type 0
+ReadFailedOf before now blame name = Rose before now × (blame ≡ record { name = name; keep = false })
+
+-- the program's file was read, and is a thin program
+pub record ReadsProgram (told : Option Held) (name : List ℕ) (n : ℕ) (calls : List ThinCall) : Type 0 where
+  pub bytes : List ℕ
+  pub held : MayHold told name bytes
+  pub fits : length bytes ≤ most_program
+  pub thin : IsThinProgram bytes n calls
+
+-- both files were read, and say this
+pub record ReadsTask (told : Option Held) (words : CheckWords) (t : Task) : Type 0 where
+  pub program : List ℕ
+  pub program_held : MayHold told words.program program
+  pub program_fits : length program ≤ most_program
+  pub sets : List ℕ
+  pub sets_held : MayHold told words.sets sets
+  pub sets_fit : length sets ≤ most_sets
+  pub says : IsTask program sets t
+
+-- the program's file was read and isn't thin
+pub record NotThinProgram (told : Option Held) (name : List ℕ) : Type 0 where
+  pub bytes : List ℕ
+  pub held : MayHold told name bytes
+  pub fits : length bytes ≤ most_program
+  pub not_thin : (n : ℕ) (calls : List ThinCall) → IsThinProgram bytes n calls → ⊥
+
+-- the sets' file was read and isn't thin for so many qubits
+pub record NotThinSets (told : Option Held) (name : List ℕ) (n : ℕ) : Type 0 where
+  pub bytes : List ℕ
+  pub held : MayHold told name bytes
+  pub fits : length bytes ≤ most_sets
+  pub not_thin : (before after : List ThinTerm) → IsThinSets bytes n before after → ⊥
+
+-- the program is thin, on some number of qubits for which this holds
+pub record BehindProgram (told : Option Held) (name : List ℕ) (P : ℕ → Type 0) : Type 0 where
+  pub qubits : ℕ
+  pub calls : List ThinCall
+  pub read : ReadsProgram told name qubits calls
+  pub then : P qubits
+
+-- Why a check stops before it judges. The program comes first: the sets' file is read only behind a thin program.
+abbrev pub HasCause : Option Held → (List ℕ → Type 0) → CheckWords → Stop → Type 0
+HasCause told ReadFailed words stop.ProgramFault = ReadFailed words.program
+HasCause told ReadFailed words stop.ProgramTooLong = IsLonger told words.program most_program
+HasCause told ReadFailed words stop.ProgramUnbuilt = NotThinProgram told words.program
+HasCause told ReadFailed words stop.SetsFault = ReadFailed words.sets
+HasCause told ReadFailed words stop.SetsTooLong = BehindProgram told words.program (λ n. IsLonger told words.sets most_sets)
+HasCause told ReadFailed words stop.SetsUnbuilt = BehindProgram told words.program (λ n. NotThinSets told words.sets n)
+HasCause told ReadFailed words stop.Memory = Unit {0}
+
+-- the line for it
+abbrev pub stop_text : CheckWords → Stop → List ℕ
+stop_text words stop.ProgramFault = read_fault_line words.program
+stop_text words stop.ProgramTooLong = program_too_long
+stop_text words stop.ProgramUnbuilt = program_unbuilt
+stop_text words stop.SetsFault = read_fault_line words.sets
+stop_text words stop.SetsTooLong = sets_too_long
+stop_text words stop.SetsUnbuilt = sets_unbuilt
+stop_text words stop.Memory = memory_line
+
+-- and its status
+abbrev pub stop_status : Stop → Status
+stop_status stop.ProgramFault = status.Read
+stop_status stop.ProgramTooLong = status.Refused
+stop_status stop.ProgramUnbuilt = status.Refused
+stop_status stop.SetsFault = status.Read
+stop_status stop.SetsTooLong = status.Refused
+stop_status stop.SetsUnbuilt = status.Refused
+stop_status stop.Memory = status.Memory
+
+-- the status of a report of one verdict
+abbrev pub verdict_status : Verdict → Status
+verdict_status verdict.Verified = status.Good
+verdict_status (verdict.Refuted r) = status.Refuted
+verdict_status (verdict.GaveUp w) = status.GaveUp
+
+-- the report of the one obligation, at the postcondition
+abbrev pub post_report : Verdict → List ℕ
+post_report v = report (record { kind = kind.Post; line = 0 } ∷ []) (v ∷ [])
+
+-- The text is the report of a justified verdict on what the files say.
+pub record IsReport (told : Option Held) (words : CheckWords) (result : Status) (text : List ℕ) : Type 0 where
+  pub task : Task
+  pub read : ReadsTask told words task
+  pub verdict : Verdict
+  pub justified : IsJustified (obligation_of task) verdict
+  pub status_is : result ≡ verdict_status verdict
+  pub text_is : text ≡ post_report verdict
+
+-- The text is the line for a stop that has its cause.
+pub record IsStop (told : Option Held) (ReadFailed : List ℕ → Type 0) (words : CheckWords) (result : Status) (text : List ℕ) : Type 0 where
+  pub stop : Stop
+  pub cause : HasCause told ReadFailed words stop
+  pub status_is : result ≡ stop_status stop
+  pub text_is : text ≡ stop_text words stop
+
+-- A whole output, with the status that goes with it.
+abbrev pub IsEndText : Option Held → (List ℕ → Type 0) → Option CheckWords → Status → List ℕ → Type 0
+IsEndText told ReadFailed None result text = (result ≡ status.Usage) × (text ≡ usage_text)
+IsEndText told ReadFailed (Some words) result text = IsReport told words result text ⊎ IsStop told ReadFailed words result text
+
+-- What was written is a front of a whole output.
+pub record IsFrontOfEnd (told : Option Held) (ReadFailed : List ℕ → Type 0) (words : Option CheckWords) (written : List ℕ) : Type 0 where
+  pub wanted : Status
+  pub text : List ℕ
+  pub end_text : IsEndText told ReadFailed words wanted text
+  pub front : IsPrefixOf written text
+
+-- What a run wrote, by its status: a whole output with that status; or a front of one, where a write failed or the sink
+-- wanted memory.
+abbrev pub EndsAs : Option Held → (List ℕ → Type 0) → Type 0 → Option CheckWords → Status → List ℕ → Type 0
+EndsAs told ReadFailed WriteFailed words result written =
+    IsEndText told ReadFailed words result written
+    ⊎ (((result ≡ status.Write) × WriteFailed × IsFrontOfEnd told ReadFailed words written)
+    ⊎ ((result ≡ status.Memory) × IsFrontOfEnd told ReadFailed words written))

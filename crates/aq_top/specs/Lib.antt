@@ -1,0 +1,7 @@
+pub mod Codes
+pub mod Words
+pub mod Tasks
+pub mod Lines
+pub mod Ends
+pub mod Said
+pub mod Judging

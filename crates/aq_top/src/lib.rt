@@ -1,0 +1,12 @@
+//! The top call: it does what the words say, over a shelf of files and a sink for the output.
+#![tactic(auto)]
+
+mod build;
+
+mod judge;
+mod load;
+
+mod status;
+
+
+pub use status::Status;
