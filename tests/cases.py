@@ -97,6 +97,18 @@ checked(
 verified("eight times t", calls(1, *["t q[0];"] * 8), claims("|0> + |1>", "|0> + |1>"))
 verified("four times t is z", calls(1, *["t q[0];"] * 4, "z q[0];"), claims("|0> + |1>", "|0> + |1>"))
 verified("twice s is z", calls(1, "s q[0];", "s q[0];"), claims("|0> + |1>", "|0> - |1>"))
+verified("y takes 0 to i times 1", calls(1, "y q[0];"), claims("|0>", "|1>"))
+verified("y takes the sum to the difference", calls(1, "y q[0];"), claims("|0> + |1>", "|0> - |1>"))
+checked(
+    "y has the factors i and -i",
+    calls(1, "y q[0];"),
+    claims("|0> + |1>", "|0> + |1>"),
+    refuted(
+        [("0", "(1,0,0,0)/0"), ("1", "(1,0,0,0)/0")],
+        [("0", "(0,0,-1,0)/0"), ("1", "(0,0,1,0)/0")],
+    ),
+    1,
+)
 verified("h z h is x", calls(1, "h q[0];", "z q[0];", "h q[0];", "x q[0];"), claims("|0>", "|0>"))
 verified("three qubits together", calls(3, "h q[0];", "cx q[0], q[1];", "cx q[1], q[2];"), claims("|000>", "|000> + |111>"))
 verified("the first qubit is the leftmost digit", calls(2, "x q[0];"), claims("|00>", "|10>"))
