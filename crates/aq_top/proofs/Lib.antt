@@ -1,3 +1,4 @@
 pub mod BuildLemmas
 pub mod JudgeLemmas
 pub mod SayLemmas
+pub mod EndsLemmas

@@ -4,4 +4,5 @@ pub mod Tasks
 pub mod Lines
 pub mod Ends
 pub mod Said
+pub mod Clauses
 pub mod Judging

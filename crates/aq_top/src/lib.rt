@@ -8,6 +8,8 @@ mod load;
 mod say;
 
 mod status;
+mod top;
 
 
 pub use status::Status;
+pub use top::run;

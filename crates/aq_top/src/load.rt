@@ -67,3 +67,29 @@ pub(crate) fn load_sets<S: Shelf>(alloc: Global, name: &str, qubits: u32, shelf:
         Err(ReadFault::Memory) => Err(Stop::Memory),
     }
 }
+
+/// A program and sets that were read for each other.
+#[derive(Debug, Drop)]
+pub(crate) struct Loaded {
+    pub(crate) program: ThinProgram,
+    pub(crate) sets: ThinSets,
+}
+
+/// Reads the program and then, behind a thin program, the sets.
+pub(crate) fn load<S: Shelf>(alloc: Global, program: &str, sets: &str, shelf: &mut S) -> Result<Loaded, Stop>
+    ensures read { IfOk result (λ l. ReadsTask (S.holds shelf.old) (files program.now sets.now) (task_of l.program l.sets)) }
+    ensures few { IfOk result (λ l. l.program.qubits ≤ 16) }
+    ensures gates { IfOk result (λ l. All (IsValidGate l.program.qubits) (map gate_of l.program.calls)) }
+    ensures before { IfOk result (λ l. All (λ t. t.index < 2 ^ l.program.qubits) l.sets.before) }
+    ensures after { IfOk result (λ l. All (λ t. t.index < 2 ^ l.program.qubits) l.sets.after) }
+    ensures cause { IfErr result (HasCause (S.holds shelf.old) (ReadFailedOf (S.faults shelf.old) (S.faults shelf.new) (S.blame shelf.new)) (files program.now sets.now)) }
+    ensures held { S.holds shelf.new ≡ S.holds shelf.old }
+{
+    match load_program(alloc, program, shelf) {
+        Ok(program) => match load_sets(alloc, sets, program.qubits, shelf) {
+            Ok(sets) => Ok(Loaded { program, sets }),
+            Err(stop) => Err(stop),
+        },
+        Err(stop) => Err(stop),
+    }
+}

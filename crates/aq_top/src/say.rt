@@ -41,17 +41,23 @@ pub(crate) fn say_usage<K: Sink>(out: &mut K) -> Status
 }
 
 #[tactic(auto, unfolding(crate::specs::Lines::read_fault_line))]
-fn print_read_fault<K: Sink>(out: &mut K, name: &str) -> Result<(), SinkFault>
+fn print_fault_of<K: Sink>(out: &mut K, name: &[u8]) -> Result<(), SinkFault>
     ensures { Prints (K.told out.old) (K.told out.new) (K.faults out.old) (K.faults out.new) result (read_fault_line name.now) }
 {
     put_pieces(
         out,
         &[
             Piece::Text(b"read fault: "),
-            Piece::Text(name.as_bytes()),
+            Piece::Text(name),
             Piece::Text(b"\n"),
         ],
     )
+}
+
+fn print_read_fault<K: Sink>(out: &mut K, name: &str) -> Result<(), SinkFault>
+    ensures { Prints (K.told out.old) (K.told out.new) (K.faults out.old) (K.faults out.new) result (read_fault_line name.now) }
+{
+    print_fault_of(out, name.as_bytes())
 }
 
 #[tactic(auto, unfolding(crate::specs::Lines::program_too_long))]
