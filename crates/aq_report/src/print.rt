@@ -27,14 +27,23 @@ fn print_head<K: Sink>(out: &mut K, number: u32, kind: Kind, line: u32) -> Resul
     ensures { Prints (K.told out.old) (K.told out.new) (K.faults out.old) (K.faults out.new) result (decimal number ++ kind_text kind line) }
 {
     match kind {
-        Kind::Post => put_pieces(out, &[Piece::Number(u64::from(number)), Piece::Text(b" post: ")]),
+        Kind::Post => put_pieces(
+            out,
+            &[Piece::Number(u64::from(number)), Piece::Text(b" post: ")],
+        ),
         Kind::Assert => print_located(out, number, b" assert line ", line),
         Kind::Entry => print_located(out, number, b" entry line ", line),
         Kind::Keep => print_located(out, number, b" keep line ", line),
     }
 }
 
-fn print_entry<K: Sink>(out: &mut K, label: &[u8], qubits: u32, index: usize, amp: Amp) -> Result<(), SinkFault>
+fn print_entry<K: Sink>(
+    out: &mut K,
+    label: &[u8],
+    qubits: u32,
+    index: usize,
+    amp: Amp,
+) -> Result<(), SinkFault>
     ensures { Prints (K.told out.old) (K.told out.new) (K.faults out.old) (K.faults out.new) result (entry_line label.now qubits index amp) }
 {
     let [a, b, c, d] = amp.coefs();
@@ -42,7 +51,10 @@ fn print_entry<K: Sink>(out: &mut K, label: &[u8], qubits: u32, index: usize, am
         out,
         &[
             Piece::Text(label),
-            Piece::Ket { qubits, index: index as u64 },
+            Piece::Ket {
+                qubits,
+                index: index as u64,
+            },
             Piece::Text(b" "),
             Piece::Text(b"("),
             Piece::Signed(a),
@@ -90,7 +102,10 @@ fn print_entries<K: Sink>(out: &mut K, label: &[u8], vector: &Vector) -> Result<
 fn print_bits<'a, K: Sink>(out: &mut K, label: &'a [u8], bits: &'a [bool]) -> Result<(), SinkFault>
     ensures { Prints (K.told out.old) (K.told out.new) (K.faults out.old) (K.faults out.new) result (bits_line label.entry.now bits.entry.now) }
 {
-    put_pieces(out, &[Piece::Text(label), Piece::Bits(bits), Piece::Text(b"\n")])
+    put_pieces(
+        out,
+        &[Piece::Text(label), Piece::Bits(bits), Piece::Text(b"\n")],
+    )
 }
 
 #[tactic(auto, unfolding(crate::specs::Texts::state_text))]
@@ -174,7 +189,12 @@ pub fn print_verdict<K: Sink>(
 }
 
 /// Prints the counts of verdicts. `Failed` and `Memory` are the sink's own, and what was put is then a front of the line.
-pub fn print_summary<K: Sink>(out: &mut K, verified: u32, refuted: u32, gave_up: u32) -> Result<(), SinkFault>
+pub fn print_summary<K: Sink>(
+    out: &mut K,
+    verified: u32,
+    refuted: u32,
+    gave_up: u32,
+) -> Result<(), SinkFault>
     ensures { Prints (K.told out.old) (K.told out.new) (K.faults out.old) (K.faults out.new) result (summary_text verified refuted gave_up) }
 {
     put_pieces(

@@ -45,13 +45,31 @@ named_here c d bytes rest e =
 -- a name that is found stands there
 pub name_found : (d : Called) (bytes rest : List ℕ) → name_at bytes ≡ Some (d, rest) → Piece (called_text d) bytes rest
 name_found d bytes rest e =
-    elim (some_or _ _ (d, rest) e) [ inl x ↦ named_here (called.Single name.X) d bytes rest x | inr e1 ↦
-    elim (some_or _ _ (d, rest) e1) [ inl x ↦ named_here (called.Single name.Y) d bytes rest x | inr e2 ↦
-    elim (some_or _ _ (d, rest) e2) [ inl x ↦ named_here (called.Single name.H) d bytes rest x | inr e3 ↦
-    elim (some_or _ _ (d, rest) e3) [ inl x ↦ named_here (called.Single name.Z) d bytes rest x | inr e4 ↦
-    elim (some_or _ _ (d, rest) e4) [ inl x ↦ named_here (called.Single name.S) d bytes rest x | inr e5 ↦
-    elim (some_or _ _ (d, rest) e5) [ inl x ↦ named_here (called.Single name.T) d bytes rest x | inr e6 ↦
-    named_here called.ControlledX d bytes rest e6 ] ] ] ] ] ]
+    elim (some_or _ _ (d, rest) e) [
+      | inl x ↦ named_here (called.Single name.X) d bytes rest x
+      | inr e1 ↦
+          elim (some_or _ _ (d, rest) e1) [
+            | inl x ↦ named_here (called.Single name.Y) d bytes rest x
+            | inr e2 ↦
+                elim (some_or _ _ (d, rest) e2) [
+                  | inl x ↦ named_here (called.Single name.H) d bytes rest x
+                  | inr e3 ↦
+                      elim (some_or _ _ (d, rest) e3) [
+                        | inl x ↦ named_here (called.Single name.Z) d bytes rest x
+                        | inr e4 ↦
+                            elim (some_or _ _ (d, rest) e4) [
+                              | inl x ↦ named_here (called.Single name.S) d bytes rest x
+                              | inr e5 ↦
+                                  elim (some_or _ _ (d, rest) e5) [
+                                    | inl x ↦ named_here (called.Single name.T) d bytes rest x
+                                    | inr e6 ↦
+                                        named_here called.ControlledX d bytes rest e6
+                                  ]
+                            ]
+                      ]
+                ]
+          ]
+    ]
 
 -- `q[i]` as it stands in the bytes
 pub record IsSpot (n i : ℕ) (bytes rest : List ℕ) : Type 0 where

@@ -93,7 +93,7 @@ told_task told held w s t e read says =
     let program : read.program ≡ bytes_at held w.program = subst (λ (o : Option Held). MayHold o w.program read.program) e read.program_held in
     let sets : read.sets ≡ bytes_at held w.sets = subst (λ (o : Option Held). MayHold o w.sets read.sets) e read.sets_held in
     one_task (bytes_at held w.program) (bytes_at held w.sets) s t
-      (subst (λ (b : List ℕ). IsTask b (bytes_at held w.sets) s) program (subst (λ (b : List ℕ). IsTask read.program b s) sets read.says)) says
+    (subst (λ (b : List ℕ). IsTask b (bytes_at held w.sets) s) program (subst (λ (b : List ℕ). IsTask read.program b s) sets read.says)) says
 
 some_is : (x y : CheckWords) → ◌≡◌ {A = Option CheckWords} (Some x) (Some y) → x ≡ y
 some_is x y e = cc
@@ -105,14 +105,14 @@ correct_of told words before after r = λ held w t told_is words_are says.
     let read : ReadsTask told w report.task = subst (λ (x : CheckWords). ReadsTask told x report.task) same report.read in
     let task : report.task ≡ t = told_task told held w report.task t told_is read says in
     subst (λ (x : Task). IsCorrect (program_of x)) task
-      (gates_alone_laws.correct report.task.qubits (map gate_of report.task.calls) (bracket_vector report.task.qubits report.task.before) (bracket_vector report.task.qubits report.task.after)
-        (true_of (obligation_of report.task) report.verdict report.status_is report.justified))
+    (gates_alone_laws.correct report.task.qubits (map gate_of report.task.calls) (bracket_vector report.task.qubits report.task.before) (bracket_vector report.task.qubits report.task.after)
+    (true_of (obligation_of report.task) report.verdict report.status_is report.justified))
 
 pub good_is_correct : (told : Option Held) (RF : List ℕ → Type 0) (WF : Type 0) (words : Option CheckWords) (before after : Option (List ℕ)) (result : Status)
     → Ends told RF WF words before after result → result ≡ status.Good → ToldIsCorrect told words
 good_is_correct told RF WF words before after result e good =
     correct_of told words before after (subst (λ (r : Status). Reports told words before after r) good
-      (reports_of told RF WF words before after result e (subst IsAnswer (sym good) tt)))
+    (reports_of told RF WF words before after result e (subst IsAnswer (sym good) tt)))
 
 read_stop : (told : Option Held) (RF : List ℕ → Type 0) (w : CheckWords) (s : Stop) → status.Read ≡ stop_status s → HasCause told RF w s → RF w.program ⊎ RF w.sets
 read_stop told RF w stop.ProgramFault e cause = inl cause

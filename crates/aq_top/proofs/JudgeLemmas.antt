@@ -70,18 +70,20 @@ pub record StepsBack (n : ℕ) (gates rest : List Gate) (v w : List Amplitude) :
 
 pub steps_back : (n i : ℕ) (gates : List Gate) (d : Gate) (v u w : List Amplitude) → i < length gates → w ≡ apply_gate n (get_or gates i d) u
     → StepsBack n gates (drop i gates) v u → StepsBack n gates (drop (i + 1) gates) v w
-steps_back n i gates d v u w h e back = record { go = λ s c.
-    back.go s (subst (λ (l : List Gate). Contains (played_gates n l u) s) (sym (drop-cons gates i d h))
-    (later_contains (record { gate = get_or gates i d; before = u }) s (played_gates n (drop (suc i) gates) (apply_gate n (get_or gates i d) u))
-    (subst (λ (x : List Amplitude). Contains (played_gates n (drop (suc i) gates) x) s) e
-    (subst (λ (k : ℕ). Contains (played_gates n (drop k gates) w) s) (add-one i) c)))) }
+steps_back n i gates d v u w h e back = record {
+  go = λ s c.
+      back.go s (subst (λ (l : List Gate). Contains (played_gates n l u) s) (sym (drop-cons gates i d h))
+      (later_contains (record { gate = get_or gates i d; before = u }) s (played_gates n (drop (suc i) gates) (apply_gate n (get_or gates i d) u))
+      (subst (λ (x : List Amplitude). Contains (played_gates n (drop (suc i) gates) x) s) e
+      (subst (λ (k : ℕ). Contains (played_gates n (drop k gates) w) s) (add-one i) c))));
+}
 
 pub wide_step : (n i : ℕ) (gates : List Gate) (d : Gate) (v u : List Amplitude) → i < length gates → StepsBack n gates (drop i gates) v u
     → (FitsGate n (get_or gates i d) u → ⊥) → WideStep n gates v
 wide_step n i gates d v u h back unfit = record {
   step = record { gate = get_or gates i d; before = u };
   met = back.go (record { gate = get_or gates i d; before = u })
-    (subst (λ (g : List Gate). Contains (played_gates n g u) (record { gate = get_or gates i d; before = u })) (sym (drop-cons gates i d h)) (0, omega arith, refl));
+      (subst (λ (g : List Gate). Contains (played_gates n g u) (record { gate = get_or gates i d; before = u })) (sym (drop-cons gates i d h)) (0, omega arith, refl));
   wide = unfit;
 }
 
@@ -127,8 +129,8 @@ compares pairs u v r same e f is p d =
     let left : lefts (λ (p : Amplitude). p ∷ []) pairs ≡ u = lefts-pairs pairs ∙ e in
     let right : rights (λ (p : Amplitude). p ∷ []) pairs ≡ v = rights-pairs pairs ∙ f in
     compares_by u v r same (subst (λ (x : List Amplitude). IsRatio x v r) left (subst (λ (y : List Amplitude). IsRatio (lefts (λ (p : Amplitude). p ∷ []) pairs) y r) right is))
-      (subst (λ (x : List Amplitude). IsSame r → Proportional x v) left (subst (λ (y : List Amplitude). IsSame r → Proportional (lefts (λ (p : Amplitude). p ∷ []) pairs) y) right p))
-      (subst (λ (x : List Amplitude). IsDifferent r → ¬ (Proportional x v)) left (subst (λ (y : List Amplitude). IsDifferent r → ¬ (Proportional (lefts (λ (p : Amplitude). p ∷ []) pairs) y)) right d))
+    (subst (λ (x : List Amplitude). IsSame r → Proportional x v) left (subst (λ (y : List Amplitude). IsSame r → Proportional (lefts (λ (p : Amplitude). p ∷ []) pairs) y) right p))
+    (subst (λ (x : List Amplitude). IsDifferent r → ¬ (Proportional x v)) left (subst (λ (y : List Amplitude). IsDifferent r → ¬ (Proportional (lefts (λ (p : Amplitude). p ∷ []) pairs) y)) right d))
 
 -- a refutation that shows the end of the gates
 pub refuted_by : (n : ℕ) (gates : List Gate) (before after : List Amplitude) (r : Refutation) → r.state.qubits ≡ n → r.end.qubits ≡ n
@@ -147,7 +149,7 @@ pub refuted_end : (n : ℕ) (gates : List Gate) (before after end : List Amplitu
     → IsJustified (gates_obligation n gates before after) (verdict.Refuted r)
 refuted_end n gates before after end r e state last shown nonzero apart =
     refuted_by n gates before after r state last (shown ∙ ap (λ (v : List Amplitude). record { bits = []; state = before; outcomes = []; end_bits = []; end = v }) e)
-      (λ z. nonzero (subst IsZeroVector (sym e) z)) (λ p. apart (subst (λ (v : List Amplitude). Proportional v after) (sym e) p))
+    (λ z. nonzero (subst IsZeroVector (sym e) z)) (λ p. apart (subst (λ (v : List Amplitude). Proportional v after) (sym e) p))
 
 pub verified_zero : (n : ℕ) (gates : List Gate) (before after end : List Amplitude) → end ≡ apply_gates n gates before → IsZeroVector end → IsJustified (gates_obligation n gates before after) verdict.Verified
 verified_zero n gates before after end e z = gates_alone_laws.zero n gates before after (subst IsZeroVector e z)

@@ -38,11 +38,19 @@ fn controls_of(alloc: Global, control: Option<u32>) -> Result<Items<u32>, AllocE
 fn sign_amplitude(minus: bool) -> Amp
     ensures { result ≡ sign_amplitude minus }
 {
-    if minus { Amp::one().turn(4) } else { Amp::one() }
+    if minus {
+        Amp::one().turn(4)
+    } else {
+        Amp::one()
+    }
 }
 
 /// The vector of a bracket.
-pub(crate) fn vector_of(alloc: Global, qubits: u32, terms: &[ThinTerm]) -> Result<Vector, AllocError>
+pub(crate) fn vector_of(
+    alloc: Global,
+    qubits: u32,
+    terms: &[ThinTerm],
+) -> Result<Vector, AllocError>
     requires few { qubits ≤ 16 }
     requires within { All (λ t. t.index < 2 ^ qubits) terms.now }
     ensures qubits { IfOk result (λ v. v.qubits ≡ qubits) }

@@ -2,14 +2,16 @@
 #![tactic(auto)]
 
 mod build;
-
+mod honest;
 mod judge;
 mod load;
 mod say;
-
 mod status;
 mod top;
 
-
+pub use honest::run_honest;
 pub use status::Status;
 pub use top::run;
+
+#[cfg(test)]
+mod tests;

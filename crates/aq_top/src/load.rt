@@ -28,7 +28,11 @@ pub enum Stop {
 }
 
 /// Reads the program.
-pub(crate) fn load_program<S: Shelf>(alloc: Global, name: &str, shelf: &mut S) -> Result<ThinProgram, Stop>
+pub(crate) fn load_program<S: Shelf>(
+    alloc: Global,
+    name: &str,
+    shelf: &mut S,
+) -> Result<ThinProgram, Stop>
     ensures read { IfOk result (λ p. ReadsProgram (S.holds shelf.old) name.now p.qubits p.calls) }
     ensures cause { IfErr result (ProgramCause (S.holds shelf.old) (ReadFailedOf (S.faults shelf.old) (S.faults shelf.new) (S.blame shelf.new)) name.now) }
     ensures later { S.faults shelf.old ≤ S.faults shelf.new }
@@ -47,7 +51,12 @@ pub(crate) fn load_program<S: Shelf>(alloc: Global, name: &str, shelf: &mut S) -
 }
 
 /// Reads the sets for so many qubits.
-pub(crate) fn load_sets<S: Shelf>(alloc: Global, name: &str, qubits: u32, shelf: &mut S) -> Result<ThinSets, Stop>
+pub(crate) fn load_sets<S: Shelf>(
+    alloc: Global,
+    name: &str,
+    qubits: u32,
+    shelf: &mut S,
+) -> Result<ThinSets, Stop>
     requires { qubits ≤ 16 }
     ensures read { IfOk result (λ s. ReadsSets (S.holds shelf.old) name.now qubits s.before s.after) }
     ensures before { IfOk result (λ s. All (λ t. t.index < 2 ^ qubits) s.before) }
@@ -76,7 +85,12 @@ pub(crate) struct Loaded {
 }
 
 /// Reads the program and then, behind a thin program, the sets.
-pub(crate) fn load<S: Shelf>(alloc: Global, program: &str, sets: &str, shelf: &mut S) -> Result<Loaded, Stop>
+pub(crate) fn load<S: Shelf>(
+    alloc: Global,
+    program: &str,
+    sets: &str,
+    shelf: &mut S,
+) -> Result<Loaded, Stop>
     ensures read { IfOk result (λ l. ReadsTask (S.holds shelf.old) (files program.now sets.now) (task_of l.program l.sets)) }
     ensures few { IfOk result (λ l. l.program.qubits ≤ 16) }
     ensures gates { IfOk result (λ l. All (IsValidGate l.program.qubits) (map gate_of l.program.calls)) }

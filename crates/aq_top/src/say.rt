@@ -13,7 +13,8 @@ use aq_obligations::Kind;
 use aq_report::{Verdict, print_summary, print_verdict};
 use aq_world::{Piece, Sink, SinkFault, put_pieces, put_text};
 
-const USAGE: &[u8] = b"usage: autoq check PROG SETS [--pre NAME] [--post NAME] [--steps N] [--cert FILE]\n       autoq recheck PROG SETS CERT [--pre NAME] [--post NAME] [--steps N]\n       autoq replay PROG SETS --state NAME [--outcomes TEXT]\n       autoq trial N\n";
+const USAGE: &[u8] =
+    b"usage: autoq check PROG SETS [--pre NAME] [--post NAME] [--steps N] [--cert FILE]\n       autoq recheck PROG SETS CERT [--pre NAME] [--post NAME] [--steps N]\n       autoq replay PROG SETS --state NAME [--outcomes TEXT]\n       autoq trial N\n";
 
 /// The status after a call that prints a whole text.
 fn status_after(printed: Result<(), SinkFault>, wanted: Status) -> Status
@@ -114,7 +115,8 @@ fn stop_status(stop: Stop) -> Status
 {
     match stop {
         Stop::ProgramFault | Stop::SetsFault => Status::Read,
-        Stop::ProgramTooLong | Stop::ProgramUnbuilt | Stop::SetsTooLong | Stop::SetsUnbuilt => Status::Refused,
+        Stop::ProgramTooLong | Stop::ProgramUnbuilt | Stop::SetsTooLong | Stop::SetsUnbuilt =>
+            Status::Refused,
         Stop::Memory => Status::Memory,
     }
 }

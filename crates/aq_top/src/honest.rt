@@ -1,0 +1,26 @@
+ghost use Rattle.std.specs.Prelude.{◌≡◌, ◌≢◌, Some, map};
+ghost use Rattle.std.specs.String.{string_bytes};
+ghost use Rattle.aq_world.specs.Files.{first_of};
+ghost use Rattle.aq_top.specs.Clauses.{IsAnswer, Reports, ToldIsCorrect};
+ghost use Rattle.aq_top.specs.Words.{check_words};
+
+use crate::status::Status;
+use crate::top::run;
+use aq_world::{HonestShelf, HonestSink};
+use std::alloc::Global;
+
+/// A run over files and a sink in memory of which no call fails: neither `Read` nor `Write` comes, and what is said of
+/// the told files and the told output holds without a premise.
+pub fn run_honest(
+    alloc: Global,
+    words: &[String],
+    shelf: &mut HonestShelf,
+    out: &mut HonestSink,
+) -> Status
+    ensures no_read { result ≢ Status.Read }
+    ensures no_write { result ≢ Status.Write }
+    ensures report_is_justified { IsAnswer result → Reports (Some (first_of shelf.old.files)) (check_words (map string_bytes words.now)) (Some out.old.bytes) (Some out.new.bytes) result }
+    ensures all_verified_implies_correct { result ≡ Status.Good → ToldIsCorrect (Some (first_of shelf.old.files)) (check_words (map string_bytes words.now)) }
+{
+    run(alloc, words, shelf, out)
+}

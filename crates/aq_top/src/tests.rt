@@ -1,0 +1,160 @@
+use crate::{Status, run, run_honest};
+use aq_lex::Text;
+use aq_world::{HonestShelf, HonestSink, MemoryShelf, MemorySink, Named, Shelf, Sink};
+use sqlite_items::Items;
+use std::alloc::{AllocError, Global};
+use std::test::Fail;
+
+const BELL: &[u8] =
+    b"OPENQASM 3.0;\ninclude \"stdgates.inc\";\nqubit[2] q;\nh q[0];\ncx q[0], q[1];\n";
+
+const PLUS: &[u8] = b"claim pre = [|00>];\nclaim post = [|00> + |11>];\n";
+
+const MINUS: &[u8] = b"claim pre = [|00>];\nclaim post = [|00> - |11>];\n";
+
+fn files_of(alloc: Global, program: &[u8], sets: &[u8]) -> Result<Items<Named>, AllocError> {
+    let mut files = Items::new(alloc);
+    files.push(Named {
+        name: Text::from_slice(alloc, b"P")?,
+        bytes: Text::from_slice(alloc, program)?,
+    })?;
+    files.push(Named {
+        name: Text::from_slice(alloc, b"bell.sets")?,
+        bytes: Text::from_slice(alloc, sets)?,
+    })?;
+    Ok(files)
+}
+
+fn words_of(alloc: Global, words: &[&str]) -> Result<Vec<String>, AllocError> {
+    let mut all = Vec::new(alloc);
+    for word in words {
+        all.push(String::from_str(alloc, word)?)?;
+    }
+    Ok(all)
+}
+
+/// The status of `check P bell.sets`, by the bounds alone.
+fn check_by<S: Shelf, K: Sink>(
+    alloc: Global,
+    shelf: &mut S,
+    out: &mut K,
+) -> Result<Status, AllocError> {
+    let words = words_of(alloc, &["check", "P", "bell.sets"])?;
+    Ok(run(alloc, words.as_slice(), shelf, out))
+}
+
+#[test]
+fn texts_and_statuses(rt: HostRuntime) -> Result<(), Fail> {
+    let alloc = rt.alloc();
+    let rows: [(&[u8], &[u8], &[u8], u8); 7] = [
+        (
+            BELL,
+            PLUS,
+            b"1 post: verified\nverified 1, refuted 0, gave up 0\n",
+            0,
+        ),
+        (
+            BELL,
+            MINUS,
+            b"1 post: refuted\n  bits -\n  state |00> (1,0,0,0)/0\n  outcomes -\n  end bits -\n  end |00> (1,0,0,0)/1\n  end |11> (1,0,0,0)/1\nverified 0, refuted 1, gave up 0\n",
+            1,
+        ),
+        (
+            b"qubit[2] q; t q[0];",
+            b"claim pre = [|10>]; claim post = [|10>];",
+            b"1 post: verified\nverified 1, refuted 0, gave up 0\n",
+            0,
+        ),
+        (
+            b"qubit[1] q; t q[0];",
+            b"claim pre = [|0> + |1>]; claim post = [|0> + |1>];",
+            b"1 post: refuted\n  bits -\n  state |0> (1,0,0,0)/0\n  state |1> (1,0,0,0)/0\n  outcomes -\n  end bits -\n  end |0> (1,0,0,0)/0\n  end |1> (0,1,0,0)/0\nverified 0, refuted 1, gave up 0\n",
+            1,
+        ),
+        (b"qubit[17] q;", PLUS, b"refused: program: Unbuilt\n", 3),
+        (
+            BELL,
+            b"claim pre = [|00> + |00>]; claim post = [|00>];",
+            b"refused: sets: Unbuilt\n",
+            3,
+        ),
+        (b"", b"", b"refused: program: Unbuilt\n", 3),
+    ];
+    for (program, sets, wanted, code) in rows {
+        let mut shelf = HonestShelf {
+            alloc,
+            files: files_of(alloc, program, sets)?,
+        };
+        let mut out = HonestSink {
+            bytes: Text::new(alloc),
+        };
+        let words = words_of(alloc, &["check", "P", "bell.sets"])?;
+        let status = run_honest(alloc, words.as_slice(), &mut shelf, &mut out);
+        assert_eq!(rt; status.code(), code);
+        assert_eq!(rt; out.bytes.as_slice(), wanted);
+    }
+    Ok(())
+}
+
+#[test]
+fn words_that_ask_for_nothing(rt: HostRuntime) -> Result<(), Fail> {
+    let alloc = rt.alloc();
+    let mut shelf = HonestShelf {
+        alloc,
+        files: Items::new(alloc),
+    };
+    let mut out = HonestSink {
+        bytes: Text::new(alloc),
+    };
+    let words = words_of(alloc, &["chek"])?;
+    let status = run_honest(alloc, words.as_slice(), &mut shelf, &mut out);
+    assert_eq!(rt; status.code(), 4);
+    assert_eq!(rt;
+        out.bytes.as_slice(),
+        b"usage: autoq check PROG SETS [--pre NAME] [--post NAME] [--steps N] [--cert FILE]\n       autoq recheck PROG SETS CERT [--pre NAME] [--post NAME] [--steps N]\n       autoq replay PROG SETS --state NAME [--outcomes TEXT]\n       autoq trial N\n".as_slice()
+    );
+    Ok(())
+}
+
+#[test]
+fn a_second_read_that_fails(rt: HostRuntime) -> Result<(), Fail> {
+    let alloc = rt.alloc();
+    let mut fails = Items::new(alloc);
+    fails.push(1)?;
+    let mut shelf = MemoryShelf {
+        alloc,
+        files: files_of(alloc, BELL, PLUS)?,
+        fails,
+        calls: 0,
+        count: 0,
+        blamed: Text::new(alloc),
+        keeping: false,
+    };
+    let mut out = HonestSink {
+        bytes: Text::new(alloc),
+    };
+    assert_eq!(rt; check_by(alloc, &mut shelf, &mut out)?, Status::Read);
+    assert_eq!(rt; out.bytes.as_slice(), b"read fault: bell.sets\n".as_slice());
+    Ok(())
+}
+
+#[test]
+fn a_write_that_fails_leaves_a_front(rt: HostRuntime) -> Result<(), Fail> {
+    let alloc = rt.alloc();
+    let mut shelf = HonestShelf {
+        alloc,
+        files: files_of(alloc, BELL, PLUS)?,
+    };
+    let mut fails = Items::new(alloc);
+    fails.push(5)?;
+    let mut out = MemorySink {
+        bytes: Text::new(alloc),
+        most: 1,
+        fails,
+        calls: 0,
+        count: 0,
+    };
+    assert_eq!(rt; check_by(alloc, &mut shelf, &mut out)?, Status::Write);
+    assert_eq!(rt; out.bytes.as_slice(), b"1 pos".as_slice());
+    Ok(())
+}
