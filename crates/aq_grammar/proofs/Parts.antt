@@ -2,11 +2,11 @@
 use Rattle.std.proofs.Common.{◌≡◌, ◌<◌, List, [], ◌∷◌, length, Result, Ok, Err, Bool, true, false, refl, sym, ap, subst, ◌∙◌, arith, length-append, Option, Some, None, inl, inr}
 use Rattle.std.specs.Prelude.{◌||◌}
 use Rattle.aq_grammar.specs.Words.{first_or, Joined, ◌⨾◌, IsOptional, IsMany, IsSeparated, IsOne, IsToken, IsSeen}
-use Rattle.aq_grammar.specs.Readers.{Reader, see_at, or_fault, token_at, one_at, both, mapped, after, before, Test, choice, optional, many, front_and_more, separated, placed}
+use Rattle.aq_grammar.specs.Readers.{Reader, see_at, or_fault, token_at, one_at, both, mapped, after, before, Test, choice, optional, many, front_and_more, separated, placed, switch}
 use Rattle.aq_grammar.specs.Laws.{Reads, BothIn, Both, OptionalIn, ManyIn}
-use Rattle.aq_grammar.proofs.Reading.{first_or-append, first_or-long, both-Reads, MappedIn, Mapped, mapped-Reads, renamed, optional-Reads, ChoiceIn, Either, choice-Reads, many-Reads, goes_of, SeenIn, seen-Reads, TokenIn, token-Reads, OneIn, one-Reads, passed, AfterIn, BeforeIn, after-Reads, before-Reads, PlacedIn, Placed, placed-Reads, same-Reads}
-use Rattle.aq_grammar.proofs.Stops.{Never, seen_never, both_never, mapped_never, choice_never, optional_never, many_never, after_never, before_never, placed_never}
-use Rattle.aq_grammar.proofs.Ends.{Keeps, seen_keeps, both_keeps, mapped_keeps, choice_keeps, optional_keeps, many_keeps, after_keeps, before_keeps, placed_keeps}
+use Rattle.aq_grammar.proofs.Reading.{first_or-append, first_or-long, both-Reads, MappedIn, Mapped, mapped-Reads, renamed, optional-Reads, ChoiceIn, Either, choice-Reads, many-Reads, goes_of, SeenIn, seen-Reads, TokenIn, token-Reads, OneIn, one-Reads, passed, AfterIn, BeforeIn, after-Reads, before-Reads, PlacedIn, Placed, placed-Reads, same-Reads, SwitchIn, Switched, switch-Reads}
+use Rattle.aq_grammar.proofs.Stops.{Never, seen_never, both_never, mapped_never, choice_never, optional_never, many_never, after_never, before_never, placed_never, switch_never}
+use Rattle.aq_grammar.proofs.Ends.{Keeps, seen_keeps, both_keeps, mapped_keeps, choice_keeps, optional_keeps, many_keeps, after_keeps, before_keeps, placed_keeps, switch_keeps}
 
 -- p reads G, where no token comes next with which it would go on. It never stops with a fault of these kinds, and it
 -- takes no token that ends a list.
@@ -25,11 +25,11 @@ nothing n = false
 abbrev pub either : {T : Type 0} → (Option T → Bool) → (Option T → Bool) → Option T → Bool
 either go more n = go n || more n
 
-not_left : (a b : Bool) → a || b ≡ false → a ≡ false
+pub not_left : (a b : Bool) → a || b ≡ false → a ≡ false
 not_left true b e = e
 not_left false b e = refl
 
-not_right : (a b : Bool) → a || b ≡ false → b ≡ false
+pub not_right : (a b : Bool) → a || b ≡ false → b ≡ false
 not_right true b e = absurd cc
 not_right false b e = e
 
@@ -89,7 +89,11 @@ renamed_part {p = p} {G = G} {K = K} part to from = record {
   keeps = part.keeps;
 }
 
--- a reader that stops for less than is said
+-- fewer faults are told of
+pub weaker : {T F A : Type 0} {never less : F → Type 0} {last : T → Bool} {p : Reader T F A} {G : A → List T → Type 0} {go : Option T → Bool} → Part never last p G go → ((k : F) → less k → never k) → Part less last p G go
+weaker part h = record { context = part.context; reads = part.reads; enough = part.enough; calm = λ k l. part.calm k (h k l); keeps = part.keeps }
+
+-- more tokens are told of with which it might go on
 pub stricter : {T F A : Type 0} {never : F → Type 0} {last : T → Bool} {p : Reader T F A} {G : A → List T → Type 0} {go : Option T → Bool} (more : Option T → Bool) → Part never last p G go → ((n : Option T) → more n ≡ false → go n ≡ false) → Part never last p G more
 stricter more part h = record { context = part.context; reads = part.reads; enough = λ x front n l e. part.enough x front n l (h n e); calm = part.calm; keeps = part.keeps }
 
@@ -170,6 +174,25 @@ optional_part {last = last} {p = p} {G = G} {go = go} test part begins = record 
   optional_enough : {T A : Type 0} (G : A → List T → Type 0) (L : A → List T → Option T → Type 0) (test go : Option T → Bool) → ((x : A) (front : List T) (n : Option T) → G x front → go n ≡ false → L x front n) → (o : Option A) (front : List T) (n : Option T) → IsOptional G o front → test n || go n ≡ false → OptionalIn test L o front n
   optional_enough G L test go enough None front n l e = (l, not_left (test n) (go n) e)
   optional_enough G L test go enough (Some x) front n l e = enough x front n l (not_right (test n) (go n) e)
+
+optional_next : {T A : Type 0} {K : A → List T → Type 0} (good : Option T → Bool) → ((x : A) (front : List T) (n : Option T) → K x front → good (first_or front n) ≡ false) → (o : Option A) (front : List T) (n : Option T) → IsOptional K o front → good n ≡ false → good (first_or front n) ≡ false
+optional_next {T = T} good h None front n l e = ap (λ (f : List T). good (first_or f n)) l ∙ e
+optional_next good h (Some x) front n l e = h x front n l
+
+-- something, and perhaps something behind it
+pub then_optional_part : {T F A B : Type 0} {never : F → Type 0} {last : T → Bool} {p : Reader T F A} {q : Reader T F B} {G : A → List T → Type 0} {K : B → List T → Type 0} {go more : Option T → Bool} (test : Test T) → Part never last p G go → Part never last q K more → ((y : B) (front : List T) (n : Option T) → K y front → test (first_or front n) ≡ true) → ((y : B) (front : List T) (n : Option T) → K y front → go (first_or front n) ≡ false) → Part never last (both p (optional test q)) (Both G (IsOptional K)) (either (either test more) go)
+then_optional_part {go = go} {more = more} test one two begins apart =
+    both_part one (stricter (either (either test more) go) (optional_part test two begins) (λ n e. not_left (test n || more n) (go n) e))
+    (λ o front n l e. optional_next go apart o front n l (not_right (test n || more n) (go n) e))
+
+pub switch_part : {T F A K : Type 0} {never : F → Type 0} {last : T → Bool} {go : Option T → Bool} (key : Option T → K) (reader : K → Reader T F A) (G : K → A → List T → Type 0) → ((k : K) → Part never last (reader k) (G k) go) → ((k : K) (x : A) (front : List T) (n : Option T) → G k x front → key (first_or front n) ≡ k) → K → Part never last (switch key reader) (Switched G) go
+switch_part {last = last} key reader G parts begins sample = record {
+  context = SwitchIn key (λ k. (parts k).context);
+  reads = switch-Reads key reader (λ k. (parts k).context) G (λ k. (parts k).reads) sample;
+  enough = λ x front n l e. subst (λ k. (parts k).context x front n) (sym (begins l.0 x front n l.1)) ((parts l.0).enough x front n l.1 e);
+  calm = λ f h. switch_never f key reader (λ k. (parts k).calm f h);
+  keeps = switch_keeps last key reader (λ k. (parts k).keeps);
+}
 
 pub choice_part : {T F A : Type 0} {never : F → Type 0} {last : T → Bool} {p q : Reader T F A} {G K : A → List T → Type 0} {go : Option T → Bool} (test : Test T) → Part never last p G go → Part never last q K go → ((x : A) (front : List T) (n : Option T) → G x front → test (first_or front n) ≡ true) → ((x : A) (front : List T) (n : Option T) → K x front → test (first_or front n) ≡ false) → Part never last (choice test p q) (Either G K) go
 choice_part {last = last} {p = p} {q = q} {G = G} {K = K} test one two yes_begins no_begins = record {
