@@ -1,7 +1,7 @@
 -- Where a reader stops with a fault of one kind, and that it does stop there.
 use Rattle.std.proofs.Common.{◌≡◌, ℕ, zero, suc, ◌<◌, List, [], ◌∷◌, ◌++◌, length, Result, Ok, Err, true, false, refl, sym, ap, subst, ◌∙◌, append_assoc, arith, Option, Some, None, ◌⊎◌, inl, inr}
 use Rattle.aq_grammar.specs.Words.{first, first_or}
-use Rattle.aq_grammar.specs.Readers.{Reader, ◌>>=◌, along, see_at, both, mapped, after, before, Test, switch, choice, optional, several, many, then_maybe, placed, refuse}
+use Rattle.aq_grammar.specs.Readers.{Reader, ◌>>=◌, along, see_at, or_fault, token_at, both, mapped, after, before, Test, switch, choice, optional, several, many, then_maybe, placed, refuse}
 use Rattle.aq_grammar.specs.Laws.{In, Reads, JoinedIn}
 use Rattle.aq_grammar.proofs.Reading.{bind_err, along_err, chosen, err_pair, ok_no_err, first-append, taken_err, many_err, many_stops, many_stops_later, test_or, some_is}
 
@@ -13,6 +13,13 @@ Never {T = T} fault p = (ts rest : List T) → p ts ≡ Err (fault, rest) → �
 pub seen_never : {T F A : Type 0} (fault none : F) (view : T → Result A F) → (none ≡ fault → ⊥) → ((t : T) → view t ≡ Err fault → ⊥) → Never fault (see_at none view)
 seen_never {A = A} fault none view other apart [] rest e = other (err_pair {A = A} none fault [] rest e).0
 seen_never fault none view other apart (t ∷ ts) rest e = apart t (taken_err (view t) t ts rest fault e).0
+
+or_fault_err : {F A : Type 0} (k l : F) (o : Option A) → or_fault k o ≡ Err l → k ≡ l
+or_fault_err k l (Some x) e = absurd cc
+or_fault_err k l None e = cc
+
+pub token_never : {T F A : Type 0} (fault none : F) (view : T → Option A) → (none ≡ fault → ⊥) → Never fault (token_at none view)
+token_never fault none view other = seen_never fault none (λ t. or_fault none (view t)) other (λ t e. other (or_fault_err none fault (view t) e))
 
 pub both_never : {T F A B : Type 0} (fault : F) (p : Reader T F A) (q : Reader T F B) → Never fault p → Never fault q → Never fault (both p q)
 unfolding both
@@ -164,6 +171,17 @@ both-Sinks fault p q L H D E reads sinks-p sinks = record {
   ];
 }
 
+-- where the second part never stops with the fault
+pub ahead-Sinks : {T F A B : Type 0} (fault : F) (p : Reader T F A) (q : Reader T F B) (D : Place T) → Sinks fault p D → Never fault q → Sinks fault (both p q) D
+unfolding both
+ahead-Sinks fault p q D sinks never = record {
+  found = λ ts rest e. elim (bind_err (p ts) (λ x. along (λ y. (x.0, y)) (q x.1)) (fault, rest) e) [
+    | inl h ↦ sinks.found ts rest h
+    | inr s ↦ absurd (never s.0.1 rest (along_err (λ y. (s.0.0, y)) (q s.0.1) (fault, rest) s.2))
+  ];
+  back = λ front rest d. rw (sinks.back front rest d) refl;
+}
+
 -- where the first part never stops with the fault
 pub behind-Sinks : {T F A B : Type 0} (fault : F) (p : Reader T F A) (q : Reader T F B) (L : In T A) (H : A → List T → Type 0) (E : Place T) → Reads p L H → Never fault p → Sinks fault q E → Sinks fault (both p q) (Behind L E)
 unfolding both
@@ -183,6 +201,22 @@ after-Sinks fault s p S Z D reads never sinks = record {
     | inr r ↦ behind_found s S Z D reads ts r.0.1 rest r.0.0 r.1 (sinks.found r.0.1 rest r.2)
   ];
   back = λ front rest d. let r = behind_back s S Z D reads front rest d in rw (r.one, sinks.back r.b rest r.leads) refl;
+}
+
+-- where what stands before may stop, too
+pub after_both-Sinks : {T F A : Type 0} (fault : F) (s : Reader T F (Unit {0})) (p : Reader T F A) (S : In T (Unit {0})) (Z : Unit {0} → List T → Type 0) (D E : Place T) → Reads s S Z → Sinks fault s D → Sinks fault p E → Sinks fault (after s p) (λ front n. D front n ⊎ Behind S E front n)
+unfolding after
+after_both-Sinks fault s p S Z D E reads sinks-s sinks = record {
+  found = λ ts rest e. elim (bind_err (s ts) (λ x. p x.1) (fault, rest) e) [
+    | inl h ↦ let r = sinks-s.found ts rest h in record { front = r.front; parts = r.parts; leads = inl r.leads }
+    | inr r ↦
+        let v = behind_found s S Z E reads ts r.0.1 rest r.0.0 r.1 (sinks.found r.0.1 rest r.2) in
+        record { front = v.front; parts = v.parts; leads = inr v.leads }
+  ];
+  back = λ front rest d. elim d [
+    | inl h ↦ rw (sinks-s.back front rest h) refl
+    | inr h ↦ let r = behind_back s S Z E reads front rest h in rw (r.one, sinks.back r.b rest r.leads) refl
+  ];
 }
 
 pub before-Sinks : {T F A : Type 0} (fault : F) (p : Reader T F A) (s : Reader T F (Unit {0})) (D : Place T) → Sinks fault p D → Never fault s → Sinks fault (before p s) D
