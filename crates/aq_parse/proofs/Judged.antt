@@ -1,5 +1,5 @@
 -- What reading a program says of its tokens.
-use Rattle.std.proofs.Common.{◌≡◌, ℕ, zero, suc, ◌+◌, List, [], ◌∷◌, ◌++◌, Ok, Err, refl, sym, ap, subst, ◌∙◌, append_assoc, arith, inl, inr}
+use Rattle.std.proofs.Common.{◌⊎◌, Result, ◌≡◌, ℕ, zero, suc, ◌+◌, List, [], ◌∷◌, ◌++◌, Ok, Err, refl, sym, ap, subst, ◌∙◌, append_assoc, arith, inl, inr}
 use Rattle.std.proofs.lemmas.List.{append-nil, append_cancel_right}
 use Rattle.aq_grammar.specs.Words.{first}
 use Rattle.aq_grammar.proofs.Reading.{ok_pair, ok_no_err, bind_ok, bind_err, err_pair}
@@ -177,3 +177,64 @@ tree_fault deep ts rest k (told.Unexpected at token) g t = (rest, fault_at deep 
 tree_fault deep ts rest k (told.NotTaken at word) g t = (rest, fault_at deep ts rest k faults.NotTaken t.0 g, t.1, t.2)
 tree_fault deep ts rest k (told.TooDeep at) g t = (rest, fault_at deep ts rest k faults.TooDeep t.0 g, t.1)
 tree_fault deep ts rest k told.Memory g t = tt
+
+-- ---- each list has one answer
+
+-- one list, cut at two places
+cut_twice : (a b c d : List Piece) → a ++ b ≡ c ++ d → ((a ≡ c) × (b ≡ d)) ⊎ ((t : Piece) × (m : List Piece) × (c ≡ a ++ t ∷ m) × (b ≡ t ∷ (m ++ d))) ⊎ ((t : Piece) × (m : List Piece) × (a ≡ c ++ t ∷ m) × (d ≡ t ∷ (m ++ b)))
+cut_twice [] b [] d e = inl (refl, e)
+cut_twice [] b (u ∷ c) d e = inr (inl (u, c, refl, e))
+cut_twice (t ∷ a) b [] d e = inr (inr (t, a, refl, sym e))
+cut_twice (t ∷ a) b (u ∷ c) d e =
+    let heads : t ≡ u = cc in
+    let tails : a ++ b ≡ c ++ d = cc in
+    elim (cut_twice a b c d tails) [
+      | inl h ↦ inl (cc, h.1)
+      | inr h ↦ elim h [
+        | inl h ↦ inr (inl (h.0, h.1, cc, h.3))
+        | inr h ↦ inr (inr (h.0, h.1, cc, h.3))
+      ]
+    ]
+
+-- what can be completed can be completed after fewer tokens
+viable_front : (front m : List Piece) (t : Piece) (whole : List Piece) → whole ≡ front ++ t ∷ m → Viable whole → Viable (front ++ t ∷ [])
+viable_front front m t whole e v =
+    let same : whole ++ v.0 ≡ (front ++ t ∷ []) ++ (m ++ v.0) =
+    ap (λ (f : List Piece). f ++ v.0) e ∙ append_assoc front (t ∷ m) v.0 ∙ sym (append_assoc front (t ∷ []) (m ++ v.0)) in
+    (m ++ v.0, v.1, v.2, subst (λ (us : List Piece). IsProgram v.1 v.2 us) same v.3)
+
+unexpected_not_word : faults.Unexpected ≡ faults.NotTaken → ⊥
+unexpected_not_word e = cc
+
+unexpected_once : (deep : ℕ) (ts r s : List Piece) → IsFault deep ts faults.Unexpected r → IsFault deep ts faults.Unexpected s → r ≡ s
+unexpected_once deep ts r s f g =
+    elim (cut_twice f.front r g.front s (sym f.parts ∙ g.parts)) [
+      | inl h ↦ h.1
+      | inr h ↦ elim h [
+        | inl h ↦ absurd (f.at_token h.0 (h.1 ++ s) h.3 refl (viable_front f.front h.1 h.0 g.front h.2 g.before))
+        | inr h ↦ absurd (g.at_token h.0 (h.1 ++ r) h.3 refl (viable_front g.front h.1 h.0 f.front h.2 f.before))
+      ]
+    ]
+
+pub one_fault : (deep : ℕ) (ts r s : List Piece) (k l : Fault) → IsFault deep ts k r → IsFault deep ts l s → (k ≡ l) × (r ≡ s)
+one_fault deep ts r s faults.TooDeep l f g = let p = g.deep_only f.front r f.parts (f.deep_here refl) in (sym p.0, p.1)
+one_fault deep ts r s faults.NotTaken l f g = let p = g.word_only f.front r f.parts (f.word_here refl) in (sym p.0, p.1)
+one_fault deep ts r s faults.Unexpected faults.TooDeep f g = absurd (unexpected_not_deep (f.deep_only g.front s g.parts (g.deep_here refl)).0)
+one_fault deep ts r s faults.Unexpected faults.NotTaken f g = absurd (unexpected_not_word (f.word_only g.front s g.parts (g.word_here refl)).0)
+one_fault deep ts r s faults.Unexpected faults.Unexpected f g = (refl, unexpected_once deep ts r s f g)
+
+ended_rest : (v w : Tree × List Piece) → ended v ≡ Ok w → w.1 ≡ []
+ended_rest (x, []) w e = let h : (let u : Tree × List Piece = (x, []) in u) ≡ w = cc in sym (ap (λ (u : Tree × List Piece). u.1) h)
+ended_rest (x, t ∷ ts) w e = absurd cc
+
+whole_rest : (deep : ℕ) (ts : List Piece) (w : Tree × List Piece) → whole_at deep ts ≡ Ok w → w.1 ≡ []
+unfolding whole_at
+whole_rest deep ts w e = let s = bind_ok (program_at deep ts) ended w e in ended_rest s.0 w s.2
+
+answered : (deep : ℕ) (ts : List Piece) (r : Result (Tree × List Piece) (Fault × List Piece)) → whole_at deep ts ≡ r → ((tree : Tree) × IsProgram deep tree ts) ⊎ ((k : Fault) × (rest : List Piece) × IsFault deep ts k rest)
+answered deep ts (Ok w) e = inl (w.0, found_is deep ts w.0 (e ∙ ap (λ (us : List Piece). Ok (w.0, us)) (whole_rest deep ts w e)))
+answered deep ts (Err d) e = inr (d.0, d.1, stopped_is deep ts d.1 d.0 e)
+
+-- a list has a tree or a fault
+pub some_answer : (deep : ℕ) (ts : List Piece) → ((tree : Tree) × IsProgram deep tree ts) ⊎ ((k : Fault) × (rest : List Piece) × IsFault deep ts k rest)
+some_answer deep ts = answered deep ts (whole_at deep ts) refl

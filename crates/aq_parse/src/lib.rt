@@ -2,6 +2,7 @@
 #![tactic(auto)]
 
 mod fault;
+mod laws;
 mod lexeme;
 mod lexemes;
 mod mark;
@@ -17,5 +18,6 @@ mod tree;
 mod words;
 
 pub use fault::ParseFault;
+pub use laws::programs;
 pub use parser::parse;
 pub use tree::{Angle, Item, Node, Note, Spot, Test, Tree, Word};

@@ -1,6 +1,7 @@
 ghost use Rattle.std.specs.Prelude.{◌≤◌, length};
 
 use crate::fault::ParseFault;
+use crate::laws::programs;
 use crate::parser::parse;
 use crate::tree::{Item, Node, Tree};
 use aq_lex::{Place, tokens};
@@ -86,6 +87,7 @@ fn statements_without_bodies(rt: HostRuntime) {
 
 #[test]
 fn names_and_angles(rt: HostRuntime) {
+    programs();
     let found = parsed(&rt, b"rx(-3*\xCF\x80/4) q[5];").ok();
     assert!(rt; found.is_some());
     if let Some(tree) = found {
