@@ -1,0 +1,9 @@
+pub mod Piece
+pub mod Words
+pub mod Pieces
+pub mod Notes
+pub mod Tokens
+pub mod Grammar
+pub mod Reading
+pub mod Places
+pub mod Verdict
