@@ -27,14 +27,23 @@ fn print_head<K: Sink>(out: &mut K, number: u32, kind: Kind, line: u32) -> Resul
     ensures { Prints (K.told out.old) (K.told out.new) (K.faults out.old) (K.faults out.new) result (decimal number ++ kind_text kind line) }
 {
     match kind {
-        Kind::Post => put_pieces(out, &[Piece::Number(u64::from(number)), Piece::Text(b" post: ")]),
+        Kind::Post => put_pieces(
+            out,
+            &[Piece::Number(u64::from(number)), Piece::Text(b" post: ")],
+        ),
         Kind::Assert => print_located(out, number, b" assert line ", line),
         Kind::Entry => print_located(out, number, b" entry line ", line),
         Kind::Keep => print_located(out, number, b" keep line ", line),
     }
 }
 
-fn print_entry<K: Sink>(out: &mut K, label: &[u8], qubits: u32, index: usize, amp: Amp) -> Result<(), SinkFault>
+fn print_entry<K: Sink>(
+    out: &mut K,
+    label: &[u8],
+    qubits: u32,
+    index: usize,
+    amp: Amp,
+) -> Result<(), SinkFault>
     ensures { Prints (K.told out.old) (K.told out.new) (K.faults out.old) (K.faults out.new) result (entry_line label.now qubits index amp) }
 {
     let [a, b, c, d] = amp.coefs();
@@ -42,7 +51,10 @@ fn print_entry<K: Sink>(out: &mut K, label: &[u8], qubits: u32, index: usize, am
         out,
         &[
             Piece::Text(label),
-            Piece::Ket { qubits, index: index as u64 },
+            Piece::Ket {
+                qubits,
+                index: index as u64,
+            },
             Piece::Text(b" "),
             Piece::Text(b"("),
             Piece::Signed(a),
@@ -90,7 +102,10 @@ fn print_entries<K: Sink>(out: &mut K, label: &[u8], vector: &Vector) -> Result<
 fn print_bits<'a, K: Sink>(out: &mut K, label: &'a [u8], bits: &'a [bool]) -> Result<(), SinkFault>
     ensures { Prints (K.told out.old) (K.told out.new) (K.faults out.old) (K.faults out.new) result (bits_line label.entry.now bits.entry.now) }
 {
-    put_pieces(out, &[Piece::Text(label), Piece::Bits(bits), Piece::Text(b"\n")])
+    put_pieces(
+        out,
+        &[Piece::Text(label), Piece::Bits(bits), Piece::Text(b"\n")],
+    )
 }
 
 #[tactic(auto, unfolding(crate::specs::Texts::state_text))]
@@ -158,7 +173,15 @@ fn print_outcome<K: Sink>(out: &mut K, verdict: &Verdict) -> Result<(), SinkFaul
     }
 }
 
-/// Prints the lines of a verdict: of obligation number `number`, of this kind, with the line of its assertion or loop.
+/// Prints the lines of a verdict on obligation number `number`, of this kind. `line` is the line of its assertion or loop,
+/// and a postcondition prints none.
+///
+/// The first line is `1 post: `, `2 assert line 3: `, `3 entry line 7: ` or `4 keep line 7: ` with `verified`, `refuted`,
+/// `gave up width` or `gave up memory` behind it. Behind `refuted` come lines that begin with two blanks: `bits` with the
+/// bits at the start, a line `state` for each entry of the vector there that isn't zero, `outcomes`, `end bits`, and a line
+/// `end` for each such entry at the end. No bits are `-`, and an entry is `|01> (1,0,0,-2)/3`: its ket, its coefficients,
+/// and the power of `sqrt(2)` that divides them.
+///
 /// `Failed` and `Memory` are the sink's own, and what was put is then a front of these lines.
 pub fn print_verdict<K: Sink>(
     out: &mut K,
@@ -173,8 +196,15 @@ pub fn print_verdict<K: Sink>(
     print_outcome(out, verdict)
 }
 
-/// Prints the counts of verdicts. `Failed` and `Memory` are the sink's own, and what was put is then a front of the line.
-pub fn print_summary<K: Sink>(out: &mut K, verified: u32, refuted: u32, gave_up: u32) -> Result<(), SinkFault>
+/// Prints the counts of verdicts as the line `verified 3, refuted 1, gave up 0`.
+///
+/// `Failed` and `Memory` are the sink's own, and what was put is then a front of the line.
+pub fn print_summary<K: Sink>(
+    out: &mut K,
+    verified: u32,
+    refuted: u32,
+    gave_up: u32,
+) -> Result<(), SinkFault>
     ensures { Prints (K.told out.old) (K.told out.new) (K.faults out.old) (K.faults out.new) result (summary_text verified refuted gave_up) }
 {
     put_pieces(
