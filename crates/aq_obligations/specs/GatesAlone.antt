@@ -54,7 +54,7 @@ pub record GatesAloneLaws : Type 0 where
   pub different : (n : ℕ) (gates : List Gate) (before after : List Amplitude) → (IsZeroVector (apply_gates n gates before) → ⊥)
       → (Proportional (apply_gates n gates before) after → ⊥) → IsRefutation (gates_obligation n gates before after) (gates_shown n gates before)
   pub counterexample : (n : ℕ) (gates : List Gate) (before after : List Amplitude) → (IsZeroVector (apply_gates n gates before) → ⊥)
-    → (Proportional (apply_gates n gates before) after → ⊥) → IsCounterexample (gates_obligation n gates before after) (gates_shown n gates before)
+      → (Proportional (apply_gates n gates before) after → ⊥) → IsCounterexample (gates_obligation n gates before after) (gates_shown n gates before)
   pub wide_gate : (n : ℕ) (gates : List Gate) (before after : List Amplitude) (step : Played) → Contains (played_gates n gates before) step
       → (FitsGate n step.gate step.before → ⊥) → IsWide (gates_obligation n gates before after)
   pub wide_product : (n : ℕ) (gates : List Gate) (before after : List Amplitude) (left right : Amplitude) → Contains (apply_gates n gates before) left
