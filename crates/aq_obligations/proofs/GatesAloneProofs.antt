@@ -18,7 +18,7 @@ use denote.Hole.Carrier.{roll}
 use Rattle.aq_prog.proofs.RunLaws.{gates_alone}
 use Rattle.aq_prog.proofs.VectorLaws.{apply_gate-proportional}
 use Rattle.aq_obligations.specs.Claims.{ClaimCase, CaseHolds, Holds}
-use Rattle.aq_obligations.specs.Obligations.{Obligation, IsListed, IsStart, run_of, IsWhole, IsTrueOf, Shown, IsCounterexample}
+use Rattle.aq_obligations.specs.Obligations.{Obligation, IsListed, IsStart, run_of, IsWhole, IsTrueOf, IsCounterexample}
 use Rattle.aq_obligations.specs.Wide.{IsWide}
 use Rattle.aq_obligations.specs.Worlds.{World, Spread, in_worlds, with_vectors, spread, spread_step, worlds, is_nought, IsKept, IsRefutation, split, mentioned}
 use Rattle.aq_obligations.specs.Correct.{run_from, PassedHolds, IsCorrect}

@@ -1,4 +1,8 @@
-//! What an annotated program owes: its obligations, when one is true, and when the program is correct.
+//! What an annotated program owes: its obligations, when one is true, when one is wide, which refutation it has, and when
+//! the program is correct.
+//!
+//! The definitions are in `specs/`: `Claims`, `Obligations`, `Wide`, `Worlds` and `Correct`. `GatesAlone` speaks of
+//! programs that only have gates.
 #![tactic(auto)]
 
 mod kind;

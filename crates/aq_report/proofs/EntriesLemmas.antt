@@ -1,7 +1,6 @@
 -- Lines for the entries of a vector, one after the other.
-use Rattle.std.proofs.Common.{◌≡◌, ℕ, ◌+◌, ◌<◌, Bool, true, false, List, [], ◌∷◌, ◌++◌, length, drop, get_or, if◌then◌else◌, refl, sym, ap, ◌∙◌, add-one, drop-cons, subst}
+use Rattle.std.proofs.Common.{◌≡◌, ℕ, ◌+◌, ◌<◌, List, ◌++◌, length, drop, get_or, refl, sym, ap, ◌∙◌, add-one, drop-cons, subst}
 use Rattle.aq_ring.specs.Fractions.{Amplitude}
-use Rattle.aq_ring.specs.Vectors.{is_zero}
 use Rattle.aq_report.specs.Texts.{entries_from, entry_text}
 
 -- what is left at an entry: its line, if it isn't zero, and what is left behind it

@@ -2,6 +2,8 @@
 #![tactic(auto)]
 
 mod print;
+#[cfg(test)]
+mod tests;
 mod verdict;
 
 pub use print::{print_summary, print_verdict};

@@ -173,7 +173,15 @@ fn print_outcome<K: Sink>(out: &mut K, verdict: &Verdict) -> Result<(), SinkFaul
     }
 }
 
-/// Prints the lines of a verdict: of obligation number `number`, of this kind, with the line of its assertion or loop.
+/// Prints the lines of a verdict on obligation number `number`, of this kind. `line` is the line of its assertion or loop,
+/// and a postcondition prints none.
+///
+/// The first line is `1 post: `, `2 assert line 3: `, `3 entry line 7: ` or `4 keep line 7: ` with `verified`, `refuted`,
+/// `gave up width` or `gave up memory` behind it. Behind `refuted` come lines that begin with two blanks: `bits` with the
+/// bits at the start, a line `state` for each entry of the vector there that isn't zero, `outcomes`, `end bits`, and a line
+/// `end` for each such entry at the end. No bits are `-`, and an entry is `|01> (1,0,0,-2)/3`: its ket, its coefficients,
+/// and the power of `sqrt(2)` that divides them.
+///
 /// `Failed` and `Memory` are the sink's own, and what was put is then a front of these lines.
 pub fn print_verdict<K: Sink>(
     out: &mut K,
@@ -188,7 +196,9 @@ pub fn print_verdict<K: Sink>(
     print_outcome(out, verdict)
 }
 
-/// Prints the counts of verdicts. `Failed` and `Memory` are the sink's own, and what was put is then a front of the line.
+/// Prints the counts of verdicts as the line `verified 3, refuted 1, gave up 0`.
+///
+/// `Failed` and `Memory` are the sink's own, and what was put is then a front of the line.
 pub fn print_summary<K: Sink>(
     out: &mut K,
     verified: u32,

@@ -1,16 +1,15 @@
 -- A call stands where the reader finds it.
-use Rattle.std.proofs.Common.{◌≡◌, ◌≢◌, ℕ, ◌+◌, ◌<◌, ◌≤◌, ◌==◌, if◌then◌else◌, Bool, true, false, ◌&&◌, not, List, [], ◌∷◌, ◌++◌, Option, Some, None, refl, ap, sym, ◌∙◌, subst, arith, option_and_then, codes, nat_lt, ◌⊎◌, inl, inr}
+use Rattle.std.proofs.Common.{◌≡◌, ◌≢◌, ℕ, ◌<◌, ◌==◌, if◌then◌else◌, Bool, true, false, List, [], ◌∷◌, Option, Some, None, refl, ap, sym, ◌∙◌, subst, arith, option_and_then, codes, nat_lt, ◌⊎◌, inl, inr}
 use Rattle.std.proofs.lemmas.Bool.Decides.{nat_tests}
 use Rattle.aq_thin.specs.declared.call.ThinName.{ThinName}
 use Rattle.aq_thin.specs.declared.call.ThinName.TheVariants as name
 use Rattle.aq_thin.specs.declared.call.ThinCall.{ThinCall}
 use Rattle.aq_thin.specs.declared.program.Called.{Called}
 use Rattle.aq_thin.specs.declared.program.Called.TheVariants as called
-use Rattle.aq_thin.specs.Pieces.{begins_word, ends_word, Piece, Pieces, numeral_value}
+use Rattle.aq_thin.specs.Pieces.{Piece, Pieces, numeral_value}
 use Rattle.aq_thin.specs.Programs.{name_text, IsSingle, IsControlled, IsCall, IsCallOf}
-use Rattle.aq_thin.specs.Reading.{behind_blanks, text_in, text_at, texts_at, numeral_at, name_at, with_name, or_else, spot_at, below, closed_spot, operands, single, apart, controlled_end, controlled, call_at}
-use Rattle.aq_thin.specs.Pieces.{is_solid}
-use Rattle.aq_thin.proofs.PieceLaws.{found_text, text_found, found_texts, texts_found, found_numeral, numeral_found, FoundNumeral, front_is, some_then}
+use Rattle.aq_thin.specs.Reading.{text_at, texts_at, numeral_at, name_at, with_name, or_else, spot_at, below, closed_spot, operands, single, apart, controlled_end, controlled, call_at}
+use Rattle.aq_thin.proofs.PieceLaws.{found_text, text_found, found_texts, texts_found, found_numeral, numeral_found, front_is, some_then}
 
 -- the name that a call begins with
 abbrev pub called_text : Called → List ℕ

@@ -1,21 +1,20 @@
 -- Calls one after the other, up to the end of the bytes.
-use Rattle.std.proofs.Common.{◌≡◌, ℕ, ◌+◌, ◌<◌, ◌≤◌, Bool, true, false, ◌&&◌, List, [], ◌∷◌, ◌++◌, length, Option, Some, None, refl, ap, sym, ◌∙◌, subst, arith, codes, length-append, append_assoc, append-nil, ap₂, drop, not}
+use Rattle.std.proofs.Common.{◌≡◌, ℕ, ◌+◌, ◌<◌, ◌≤◌, true, false, List, [], ◌∷◌, ◌++◌, length, Option, Some, None, refl, ap, sym, ◌∙◌, subst, arith, codes, length-append, append_assoc, append-nil, ap₂, drop}
 use Rattle.std.specs.List.{list_all}
 use Rattle.aq_lex.specs.Bytes.{is_blank}
 use Rattle.aq_thin.specs.declared.call.ThinName.{ThinName}
 use Rattle.aq_thin.specs.declared.call.ThinName.TheVariants as name
 use Rattle.aq_thin.specs.declared.call.ThinCall.{ThinCall}
-use Rattle.aq_thin.specs.Pieces.{Piece, Pieces, IsEnd}
-use Rattle.aq_thin.specs.Programs.{name_text, IsSingle, IsControlled, IsCall, IsCallOf, AreCalls, IsHead, IsThinProgram}
+use Rattle.aq_thin.specs.Pieces.{Piece, Pieces}
+use Rattle.aq_thin.specs.Programs.{name_text, IsCall, IsCallOf, AreCalls, IsThinProgram}
 use Rattle.aq_thin.specs.Reading.{call_at, head_at}
 use Rattle.aq_lex.proofs.Runs.{run-whole}
 use Rattle.std.proofs.lemmas.Grind.{common_steps}
-use Rattle.std.specs.List.{prefix_len}
 use Rattle.aq_thin.specs.Reading.{behind_blanks}
 use Rattle.aq_thin.specs.Pieces.{is_solid}
 use Rattle.aq_thin.proofs.PieceLaws.{front_is}
 use Rattle.aq_thin.proofs.CallLaws.{found_call, call_found, joined}
-use Rattle.aq_thin.proofs.HeadLaws.{found_head, head_found}
+use Rattle.aq_thin.proofs.HeadLaws.{found_head}
 
 -- a piece leaves no more than there was
 pub piece_leaves : (text bytes rest : List ℕ) → Piece text bytes rest → length rest + length text ≤ length bytes

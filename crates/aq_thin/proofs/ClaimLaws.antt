@@ -1,10 +1,9 @@
 -- Claims and set texts are read as they stand.
-use Rattle.std.proofs.Common.{◌≡◌, ℕ, Bool, true, false, ◌&&◌, List, [], ◌∷◌, ◌++◌, length, map, Option, Some, None, refl, ap, sym, ◌∙◌, subst, codes}
+use Rattle.std.proofs.Common.{◌≡◌, ℕ, true, false, List, [], map, Option, Some, None, refl, subst, codes}
 use Rattle.std.specs.List.{list_all}
 use Rattle.aq_lex.specs.Bytes.{is_blank}
-use Rattle.aq_lex.proofs.Runs.{is_and}
 use Rattle.aq_thin.specs.declared.term.ThinTerm.{ThinTerm}
-use Rattle.aq_thin.specs.Pieces.{is_solid, Piece, Pieces, IsEnd}
+use Rattle.aq_thin.specs.Pieces.{is_solid, Piece}
 use Rattle.aq_thin.specs.SetTexts.{AreTerms, IsClaim, IsThinSets, no_repeats, index_of}
 use Rattle.aq_thin.specs.Reading.{opening, text_at, texts_at}
 use Rattle.aq_thin.proofs.PieceLaws.{found_text, text_found, found_texts, texts_found}

@@ -1,5 +1,5 @@
 -- What stands before the calls is found, and stands where it is found.
-use Rattle.std.proofs.Common.{◌≡◌, ℕ, ◌+◌, ◌<◌, ◌≤◌, if◌then◌else◌, Bool, true, false, ◌&&◌, List, [], ◌∷◌, ◌++◌, Option, Some, None, refl, ap, sym, ◌∙◌, subst, arith, option_and_then, codes, nat_lt, ◌⊎◌, inl, inr}
+use Rattle.std.proofs.Common.{◌≡◌, ℕ, ◌<◌, ◌≤◌, true, ◌&&◌, List, [], ◌∷◌, Option, Some, None, refl, ap, sym, ◌∙◌, subst, arith, option_and_then, codes, nat_lt, ◌⊎◌, inl, inr}
 use Rattle.aq_lex.proofs.Runs.{both, is_and}
 use Rattle.aq_thin.specs.Pieces.{Piece, Pieces, numeral_value}
 use Rattle.aq_thin.specs.Programs.{Optional, IsHead}

@@ -1,8 +1,8 @@
 -- A ket's index is below the number of kets.
-use Rattle.std.proofs.Common.{◌≡◌, ℕ, zero, suc, ◌+◌, ◌*◌, ◌<◌, ◌≤◌, ◌^◌, ◌==◌, Bool, true, false, if◌then◌else◌, List, [], ◌∷◌, All, length, slice_index_or, refl, ap, sym, ◌∙◌, subst, arith, ◌⊎◌, inl, inr}
+use Rattle.std.proofs.Common.{◌≡◌, ℕ, zero, suc, ◌+◌, ◌*◌, ◌<◌, ◌≤◌, ◌^◌, ◌==◌, Bool, true, false, if◌then◌else◌, List, [], ◌∷◌, All, length, slice_index_or, ap, arith, inl, inr}
 use Rattle.std.proofs.Math.Nat.{pow-succ'}
 use Rattle.aq_thin.specs.declared.term.ThinTerm.{ThinTerm}
-use Rattle.aq_thin.specs.SetTexts.{binary_after, IsKet, IsSigned, IsFirst, AreMore, AreTerms, IsClaim, IsThinSets}
+use Rattle.aq_thin.specs.SetTexts.{binary_after, IsKet, IsFirst, AreMore, AreTerms, IsThinSets}
 
 -- one digit more
 next_digit : (m p : ℕ) (v : Bool) → (2 * m + (if v then 1 else 0) + 1) * p ≤ (m + 1) * (2 * p)

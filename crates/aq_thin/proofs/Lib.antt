@@ -5,3 +5,4 @@ pub mod CallsLaws
 pub mod SetLaws
 pub mod ClaimLaws
 pub mod IndexLaws
+pub mod OneReading

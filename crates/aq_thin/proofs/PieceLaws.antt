@@ -1,5 +1,5 @@
 -- A piece stands where the reader finds it.
-use Rattle.std.proofs.Common.{◌≡◌, ℕ, ◌+◌, ◌*◌, if◌then◌else◌, ◌-◌, ◌≤◌, Bool, true, false, ◌&&◌, ◌||◌, not, List, [], ◌∷◌, ◌++◌, length, take, drop, Option, Some, None, refl, ap, sym, ◌∙◌, subst, arith, cond, option_and_then, length-append, append_assoc}
+use Rattle.std.proofs.Common.{◌≡◌, ℕ, ◌+◌, ◌*◌, if◌then◌else◌, ◌-◌, Bool, true, false, ◌&&◌, ◌||◌, not, List, [], ◌∷◌, ◌++◌, length, take, drop, Option, Some, None, refl, ap, sym, ◌∙◌, subst, arith, cond, option_and_then}
 use Rattle.std.specs.List.{prefix_len, list_all}
 use Rattle.std.specs.Str.{bytes_eq}
 use Rattle.std.proofs.lemmas.Slice.Eq.{bytes_eq-Decides}
@@ -7,9 +7,9 @@ use Rattle.std.proofs.lemmas.Grind.{common_steps}
 use Rattle.std.proofs.lemmas.List.{append-nil}
 use Rattle.std.proofs.lemmas.Bool.Decides.{nat_tests}
 use Rattle.aq_lex.specs.Bytes.{is_blank, is_word, is_digit, is_letter}
-use Rattle.aq_lex.proofs.Runs.{both, one_take, run-stop, run-all, run-within, run-whole}
+use Rattle.aq_lex.proofs.Runs.{both, run-stop, run-all, run-whole}
 use Rattle.aq_thin.specs.Pieces.{begins_word, ends_word, is_solid, Piece, Pieces, numeral_value}
-use Rattle.aq_thin.specs.Reading.{behind_blanks, text_in, text_at, texts_at, numeral_at, numeral_in, word_len, with_rest}
+use Rattle.aq_thin.specs.Reading.{behind_blanks, text_in, text_at, texts_at, numeral_at, word_len, with_rest}
 
 -- the first byte passes the test
 abbrev pub begins_with : (ℕ → Bool) → List ℕ → Bool

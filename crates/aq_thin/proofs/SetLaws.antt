@@ -1,20 +1,19 @@
 -- Kets and terms stand where the reader finds them.
-use Rattle.std.proofs.Common.{◌≡◌, ℕ, suc, ◌+◌, ◌<◌, ◌≤◌, ◌==◌, if◌then◌else◌, Bool, true, false, ◌&&◌, ◌||◌, not, cond, nat_lt, List, [], ◌∷◌, ◌++◌, length, take, drop, Option, Some, None, refl, ap, sym, ◌∙◌, subst, arith, option_and_then, codes, ◌⊎◌, inl, inr, append_assoc, append-nil, ap₂, map, get_or, drop-cons, add-one}
+use Rattle.std.proofs.Common.{◌≡◌, ℕ, suc, ◌+◌, ◌<◌, ◌≤◌, ◌==◌, if◌then◌else◌, Bool, true, false, ◌&&◌, ◌||◌, not, cond, nat_lt, List, [], ◌∷◌, ◌++◌, length, take, drop, Option, Some, None, refl, ap, sym, ◌∙◌, subst, arith, option_and_then, codes, inl, inr, append_assoc, append-nil, ap₂, map, get_or, drop-cons, add-one}
 use Rattle.std.specs.List.{list_all, list_any, prefix_len}
 use Rattle.std.specs.Ordering.{nat_cmp}
 use Rattle.std.specs.BTreeMap.{is_at}
 use Rattle.std.proofs.lemmas.Bool.Decides.{nat_tests}
 use Rattle.std.proofs.lemmas.Grind.{common_steps}
 use Rattle.aq_lex.specs.Bytes.{is_blank, begins}
-use Rattle.aq_lex.proofs.Runs.{both, is_and, run-stop, run-all, run-within, begins-at}
+use Rattle.aq_lex.proofs.Runs.{run-stop, run-all, run-within, begins-at}
 use Rattle.aq_thin.specs.declared.term.ThinTerm.{ThinTerm}
-use Rattle.aq_thin.specs.Pieces.{begins_word, ends_word, Piece, Pieces}
+use Rattle.aq_thin.specs.Pieces.{ends_word, Piece}
 use Rattle.aq_thin.specs.SetTexts.{is_binary, binary_after, IsKet, sign_text, IsSigned, AreMore, IsFirst, AreTerms, no_repeats, index_of}
 use Rattle.aq_thin.specs.Reading.{behind_blanks, text_at, ket_in, ket_at, signed, signed_from, signed_at, first_at}
-use Rattle.aq_thin.specs.Pieces.{is_solid}
-use Rattle.aq_thin.proofs.PieceLaws.{found_text, text_found, front_is, some_then, take_front, drop_front, take_drop}
+use Rattle.aq_thin.proofs.PieceLaws.{found_text, text_found, front_is, take_front, drop_front, take_drop}
 use Rattle.aq_thin.proofs.CallsLaws.{piece_leaves}
-use Rattle.aq_thin.proofs.CallLaws.{joined, some_if_pair}
+use Rattle.aq_thin.proofs.CallLaws.{joined}
 
 -- a ket's text doesn't end in a word's byte
 ket_ends : (b : ℕ) (digits : List ℕ) → ends_word (b ∷ (digits ++ 62 ∷ [])) ≡ false

@@ -1,6 +1,6 @@
 -- Thin programs: an optional version, an optional include, one register of qubits, and calls of a few gates.
 use Rattle.std.specs.Prelude.{◌≡◌, ◌≢◌, ℕ, ◌<◌, ◌≤◌, List, [], ◌∷◌, length, codes, Option, Some, None, ◌⊎◌}
-use Rattle.aq_thin.specs.Pieces.{Piece, Pieces, IsEnd, numeral_value}
+use Rattle.aq_thin.specs.Pieces.{Pieces, IsEnd, numeral_value}
 use Rattle.aq_thin.specs.declared.call.ThinName.{ThinName}
 use Rattle.aq_thin.specs.declared.call.ThinName.TheVariants as name
 use Rattle.aq_thin.specs.declared.call.ThinCall.{ThinCall}

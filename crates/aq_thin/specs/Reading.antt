@@ -1,6 +1,6 @@
 -- What the readers find at the front of bytes. Only the crate's own readers are stated by these.
-use Rattle.std.specs.Prelude.{ℕ, ◌+◌, ◌==◌, Bool, true, false, ◌&&◌, List, [], ◌∷◌, length, take, drop, Option, Some, None, option_and_then, codes, nat_lt, not, if◌then◌else◌}
-use Rattle.std.specs.List.{prefix_len, list_all}
+use Rattle.std.specs.Prelude.{ℕ, ◌+◌, ◌==◌, Bool, true, false, ◌&&◌, List, [], ◌∷◌, length, take, drop, Option, Some, None, option_and_then, codes, nat_lt, if◌then◌else◌}
+use Rattle.std.specs.List.{prefix_len}
 use Rattle.std.specs.Str.{bytes_eq}
 use Rattle.aq_lex.specs.Bytes.{is_blank, is_word}
 use Rattle.aq_thin.specs.Pieces.{begins_word, ends_word, numeral_value}

@@ -1,9 +1,11 @@
 use std::alloc::AllocError;
 
-/// Why a text is not read: it isn't thin, or memory is wanting.
+/// Why a text is not read.
 #[derive(Clone, Copy, Debug, PartialEq, Eq)]
 pub enum ThinFault {
+    /// The text isn't thin.
     NotThin,
+    /// Out of memory.
     Memory,
 }
 

@@ -3,9 +3,12 @@
 
 mod call;
 mod fault;
+pub mod laws;
 mod program;
 mod scan;
 mod term;
+#[cfg(test)]
+mod tests;
 mod thin_program;
 mod thin_sets;
 

@@ -12,10 +12,12 @@ use std::alloc::Global;
 /// The most calls that a thin program has.
 const MOST_CALLS: usize = 100_000;
 
-/// A thin program: its number of qubits, and its calls in order.
+/// A thin program.
 #[derive(Debug, Drop)]
 pub struct ThinProgram {
+    /// The number of qubits of its register, from 1 to 16.
     pub qubits: u32,
+    /// Its calls in order, at most 100,000. Each index is below the number of qubits.
     pub calls: Items<ThinCall>,
 }
 
@@ -38,7 +40,10 @@ fn calls_in(alloc: Global, qubits: u32, bytes: &[u8]) -> Result<Items<ThinCall>,
     Ok(calls)
 }
 
-/// Reads a thin program. `NotThin` comes exactly where the text isn't one, and `Memory` for want of memory.
+/// Reads a thin program: `OPENQASM 3.0;` or nothing, `include "stdgates.inc";` or nothing, `qubit[n] q;` with n from 1 to
+/// 16, and at most 100,000 calls `x q[i];`, with `h`, `z`, `s` or `t` for `x` as well, or `cx q[i], q[j];` with two
+/// different indices. A number has one digit or two, and an index is below n. Blanks may stand between tokens, comments
+/// may not. `NotThin` comes exactly where the text isn't a thin program, and `Memory` for want of memory.
 pub fn read_program(alloc: Global, source: &[u8]) -> Result<ThinProgram, ThinFault>
     ensures thin { IfOk result (λ p. IsThinProgram source.now p.qubits p.calls) }
     ensures not_thin { IfErr result (λ e. e ≡ ThinFault.NotThin → (n : ℕ) (calls : List ThinCall) → IsThinProgram source.now n calls → ⊥) }

@@ -12,10 +12,12 @@ use sqlite_items::Items;
 use std::alloc::Global;
 use std::collections::BTreeSet;
 
-/// A thin set text: the terms of the precondition's bracket and of the postcondition's.
+/// A thin set text: the terms of its two brackets, in order. In a bracket no index stands twice.
 #[derive(Debug, Drop)]
 pub struct ThinSets {
+    /// The terms of the precondition, one or more.
     pub before: Items<ThinTerm>,
+    /// The terms of the postcondition, one or more.
     pub after: Items<ThinTerm>,
 }
 
@@ -175,7 +177,10 @@ fn claim_at<'a>(
     Ok((terms, rest))
 }
 
-/// Reads a thin set text for so many qubits. `NotThin` comes exactly where the text isn't one, and `Memory` for want of memory.
+/// Reads a thin set text for so many qubits: `claim pre = [..];` and then `claim post = [..];`, each bracket with one
+/// ket or more, all different, as `|01> - |10>`, a sign between two kets and a `-` or nothing before the first. A ket has
+/// a binary digit for each qubit. Blanks may stand between tokens, comments may not. `NotThin` comes exactly where the
+/// text isn't such a text, and `Memory` for want of memory.
 pub fn read_sets(alloc: Global, source: &[u8], qubits: u32) -> Result<ThinSets, ThinFault>
     requires { qubits ≤ 16 }
     ensures thin { IfOk result (λ s. IsThinSets source.now qubits s.before s.after) }

@@ -1,4 +1,4 @@
-use Rattle.std.proofs.Common.{◌≡◌, ℕ, List, ◌++◌, arith, sym}
+use Rattle.std.proofs.Common.{arith}
 use Rattle.std.proofs.lemmas.Result.{err_from_is_err_and}
 use Rattle.aq_world.proofs.PrintsLemmas.{Appends-then, Rose-later, part-more, part-front}
 use Rattle.aq_report.proofs.EntriesLemmas.{entries-at}

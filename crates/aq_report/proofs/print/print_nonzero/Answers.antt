@@ -1,4 +1,4 @@
-use Rattle.std.proofs.Common.{◌≡◌, ℕ, List, [], Bool, true, false, sym, ◌∙◌, arith}
+use Rattle.std.proofs.Common.{sym, ◌∙◌, arith}
 use Rattle.aq_ring.proofs.VectorLaws.{is_zero_is}
 use Rattle.aq_world.proofs.PrintsLemmas.{Appends-none}
 use Rattle.aq_report.proofs.print.print_nonzero.Goals as goal

@@ -1,8 +1,5 @@
-use Rattle.std.proofs.Common.{◌≡◌, ◌≤◌, ℕ, List, length, ◌+◌, ◌<◌, Bool, true, false, [], ◌∷◌, ◌++◌, Option, Some, None, arith, sym, length-append, ap, ◌∙◌}
-use Rattle.aq_thin.specs.Programs.{AreCalls}
-use Rattle.aq_thin.specs.declared.call.ThinCall.{ThinCall}
-use Rattle.aq_thin.specs.Reading.{call_at}
-use Rattle.aq_thin.proofs.CallsLaws.{Carries, carries_start, carries_step, carries_none, carries_many, carries_end, call_leaves}
+use Rattle.std.proofs.Common.{[], ◌∷◌, arith, sym, length-append, ◌∙◌}
+use Rattle.aq_thin.proofs.CallsLaws.{carries_start, carries_step, carries_none, carries_end, call_leaves}
 use Rattle.aq_thin.proofs.thin_program.calls_in.Goals as goal
 
 pub loop-rest-init : goal.loop-rest-init

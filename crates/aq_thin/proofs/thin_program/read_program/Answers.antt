@@ -1,7 +1,5 @@
 use Rattle.std.proofs.lemmas.Result.{err_from_is_err_and}
-use Rattle.std.proofs.Common.{◌≡◌, ℕ, List, Option, Some, None, sym, ◌∙◌}
-use Rattle.aq_thin.specs.Programs.{AreCalls, IsThinProgram}
-use Rattle.aq_thin.specs.declared.call.ThinCall.{ThinCall}
+use Rattle.std.proofs.Common.{sym}
 use Rattle.aq_thin.proofs.CallsLaws.{no_head, no_calls}
 use Rattle.aq_thin.proofs.HeadLaws.{head_found}
 use Rattle.aq_thin.proofs.thin_program.read_program.Goals as goal

@@ -1,5 +1,4 @@
-use Rattle.std.proofs.Common.{◌≡◌, ◌==◌, ◌||◌, ℕ, List, [], ◌∷◌, map, drop, refl, ap, sym, ◌∙◌, get_or, false}
-use Rattle.std.specs.List.{list_any}
+use Rattle.std.proofs.Common.{◌==◌, ◌||◌, [], ◌∷◌, refl, ap, sym, ◌∙◌, get_or, false}
 use Rattle.aq_thin.specs.declared.term.ThinTerm.{ThinTerm}
 use Rattle.aq_thin.proofs.SetLaws.{distinct_rest, distinct_stop, not_is_true, not_is_false}
 use Rattle.aq_thin.proofs.thin_sets.are_distinct.Goals as goal

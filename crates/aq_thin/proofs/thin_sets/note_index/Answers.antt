@@ -1,4 +1,4 @@
-use Rattle.std.proofs.Common.{◌≡◌, ◌==◌, ℕ, ◌∙◌, ap, cond, true}
+use Rattle.std.proofs.Common.{◌==◌, ◌∙◌, ap, cond, true}
 use Rattle.std.specs.BTreeSet.{contains}
 use Rattle.std.specs.Ordering.{nat_cmp}
 use Rattle.aq_thin.proofs.SetLaws.{is_at_eq, true_or}

@@ -1,9 +1,7 @@
-use Rattle.std.proofs.Common.{◌≡◌, ℕ, List, sym, ◌∙◌}
+use Rattle.std.proofs.Common.{sym, ◌∙◌}
 use Rattle.std.proofs.lemmas.Result.{err_from_is_err_and}
-use Rattle.aq_thin.specs.declared.term.ThinTerm.{ThinTerm}
 use Rattle.aq_thin.proofs.ClaimLaws.{no_before, no_after, more_behind}
 use Rattle.aq_thin.proofs.IndexLaws.{before_below, after_below}
-use Rattle.aq_thin.specs.SetTexts.{IsThinSets}
 use Rattle.aq_thin.proofs.thin_sets.read_sets.Goals as goal
 
 pub returns-in_err-before-clause-not_thin : goal.returns-in_err-before-clause-not_thin

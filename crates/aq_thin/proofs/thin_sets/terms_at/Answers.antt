@@ -1,7 +1,5 @@
-use Rattle.std.proofs.Common.{◌≡◌, ℕ, List, length, ◌<◌, [], ◌∷◌, ◌++◌, Option, Some, None, sym, ap, ◌∙◌}
-use Rattle.aq_thin.specs.SetTexts.{AreTerms}
-use Rattle.aq_thin.specs.declared.term.ThinTerm.{ThinTerm}
-use Rattle.aq_thin.proofs.SetLaws.{CarriesTerms, terms_start, terms_step, terms_end, terms_none, no_first, signed_leaves}
+use Rattle.std.proofs.Common.{sym}
+use Rattle.aq_thin.proofs.SetLaws.{terms_start, terms_step, terms_end, terms_none, no_first, signed_leaves}
 use Rattle.aq_thin.proofs.thin_sets.terms_at.Goals as goal
 
 pub returns-in_default-clause-not_thin : goal.returns-in_default-clause-not_thin
