@@ -27,21 +27,18 @@ pub record World : Type 0 where
   pub outcomes : List Bool
   pub vectors : List (List Amplitude)  -- one for each vector of the case, in its order
 
--- the value that is known of a bit
-abbrev pub known : Partial → ℕ → Option Bool
-known bits bit = option_and_then (λ b. b) (slice_get bits bit)
-
 -- the world in which the bit had this value from the beginning
 abbrev pub decided : ℕ → Bool → World → World
 decided bit b w = record { case = w.case; start = slice_set w.start bit (Some b); bits = slice_set w.bits bit (Some b); outcomes = w.outcomes; vectors = w.vectors }
 
--- the worlds with each value of the bit that isn't ruled out, 0 before 1
-abbrev pub either : ℕ → Option Bool → World → List World
-either bit (Some b) w = w ∷ []
-either bit None w = decided bit false w ∷ decided bit true w ∷ []
+-- the worlds with each value of the bit that isn't ruled out, 0 before 1; the bit may be known, or be none of the program's
+abbrev pub either : ℕ → Option (Option Bool) → World → List World
+either bit (Some None) w = decided bit false w ∷ decided bit true w ∷ []
+either bit (Some (Some b)) w = w ∷ []
+either bit None w = w ∷ []
 
 abbrev pub split : ℕ → World → List World
-split bit w = either bit (known w.bits bit) w
+split bit w = either bit (slice_get w.bits bit) w
 
 -- what a statement makes of a world
 abbrev pub Spread : Type 0
@@ -75,14 +72,21 @@ reset_world n qubit b w = with_vectors (flipped n qubit b) (measured_world n qub
 abbrev pub agrees : Guard → Bool → Bool
 agrees guard b = if guard.value then b else not b
 
+-- the guard is known to hold; as in a run, it doesn't hold on a bit that is none of the program's
+abbrev pub is_known : Guard → Option (Option Bool) → Bool
+is_known guard (Some (Some b)) = agrees guard b
+is_known guard (Some None) = false
+is_known guard None = false
+
 -- the branch that a known value of the bit takes
 abbrev pub branch : Guard → Spread → Spread → World → List World
-branch guard when_true when_false w = if agrees guard (unwrap_or (known w.bits guard.bit) false) then when_true w else when_false w
+branch guard when_true when_false w = if is_known guard (slice_get w.bits guard.bit) then when_true w else when_false w
 
 -- the worlds of an assumption, by what is known of its bit
-abbrev pub assumed_worlds : Guard → Option Bool → World → List World
-assumed_worlds guard (Some b) w = if agrees guard b then w ∷ [] else []
-assumed_worlds guard None w = decided guard.bit guard.value w ∷ []
+abbrev pub assumed_worlds : Guard → Option (Option Bool) → World → List World
+assumed_worlds guard (Some None) w = decided guard.bit guard.value w ∷ []
+assumed_worlds guard (Some (Some b)) w = if agrees guard b then w ∷ [] else []
+assumed_worlds guard None w = []
 
 -- one level of a statement, in which the statements inside already stand as what they make of a world; fragments have no
 -- loop and no assertion, and such a statement would leave a world as it is
@@ -94,19 +98,20 @@ spread_step n (Stmt-F.If guard when_true when_false) w =
     flat_map (branch guard (in_worlds when_true) (in_worlds when_false)) (split guard.bit w)
 spread_step n (Stmt-F.While guard claim body line) w = w ∷ []
 spread_step n (Stmt-F.Assert claim line) w = w ∷ []
-spread_step n (Stmt-F.Assume guard) w = assumed_worlds guard (known w.bits guard.bit) w
+spread_step n (Stmt-F.Assume guard) w = assumed_worlds guard (slice_get w.bits guard.bit) w
 
 abbrev pub spread : ℕ → Stmt → Spread
 spread n = fold-Stmt Spread (spread_step n)
 
--- the bits with the guard's bit known, or nothing where it is known to be otherwise
-abbrev pub fixing_as : Option Bool → Guard → Partial → Option Partial
-fixing_as None guard bits = Some (slice_set bits guard.bit (Some guard.value))
-fixing_as (Some b) guard bits = if agrees guard b then Some bits else None
+-- the bits with the guard's bit known, or nothing where it is known to be otherwise or is none of the program's
+abbrev pub fixing_as : Option (Option Bool) → Guard → Partial → Option Partial
+fixing_as (Some None) guard bits = Some (slice_set bits guard.bit (Some guard.value))
+fixing_as (Some (Some b)) guard bits = if agrees guard b then Some bits else None
+fixing_as None guard bits = None
 
 abbrev pub fixing : List Guard → Partial → Option Partial
 fixing [] bits = Some bits
-fixing (g ∷ gs) bits = option_and_then (fixing gs) (fixing_as (known bits g.bit) g bits)
+fixing (g ∷ gs) bits = option_and_then (fixing gs) (fixing_as (slice_get bits g.bit) g bits)
 
 abbrev pub given_guards : Option Guard → List Guard
 given_guards None = []
