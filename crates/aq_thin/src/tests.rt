@@ -74,7 +74,7 @@ fn programs_that_are_not_thin(rt: HostRuntime) {
         b"qubit[2] q; cx q[1], q[1];",
         b"qubit[2] q; x q[0], q[1];",
         b"qubit[2] q; xq[0];",
-        b"qubit[2] q; y q[0];",
+        b"qubit[2] q; sdg q[0];",
         b"qubit[2] r;",
         b"OPENQASM 3.00; qubit[2] q;",
         b"OPENQASM 3.0 qubit[2] q;",
