@@ -1,7 +1,9 @@
-ghost use Rattle.std.specs.Prelude.{◌≡◌, ◌≢◌, Some, map};
+ghost use Rattle.std.specs.Prelude.{◌≡◌, ◌≢◌, [], false, None, Some, map};
 ghost use Rattle.std.specs.String.{string_bytes};
+ghost use Rattle.aq_world.specs.Causes.{Rose};
 ghost use Rattle.aq_world.specs.Files.{first_of};
-ghost use Rattle.aq_top.specs.Clauses.{IsAnswer, Reports, ToldIsCorrect};
+ghost use Rattle.aq_top.specs.Clauses.{IsAnswer, Reports, Ends, ToldIsCorrect};
+ghost use Rattle.aq_top.specs.Ends.{ReadFailedOf};
 ghost use Rattle.aq_top.specs.Words.{check_words};
 
 use crate::status::Status;
@@ -21,6 +23,10 @@ pub fn run_honest(
     ensures no_write { result ≢ Status.Write }
     ensures report_is_justified { IsAnswer result → Reports (Some (first_of shelf.old.files)) (check_words (map string_bytes words.now)) (Some out.old.bytes) (Some out.new.bytes) result }
     ensures all_verified_implies_correct { result ≡ Status.Good → ToldIsCorrect (Some (first_of shelf.old.files)) (check_words (map string_bytes words.now)) }
+    // The counts of faults stay 0, so that no end has a failed read or write for its cause.
+    ensures other_ends { Ends (Some (first_of shelf.old.files)) (ReadFailedOf 0 0 (record { name = []; keep = false })) (Rose 0 0) (check_words (map string_bytes words.now)) (Some out.old.bytes) (Some out.new.bytes) result }
+    ensures usage_has_its_cause { result ≡ Status.Usage → check_words (map string_bytes words.now) ≡ None }
+    ensures shelf_stays { first_of shelf.new.files ≡ first_of shelf.old.files }
 {
     run(alloc, words, shelf, out)
 }
