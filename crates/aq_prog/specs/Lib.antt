@@ -3,3 +3,4 @@ pub mod Gates
 pub mod Runs
 pub mod Laws
 pub mod Table
+pub mod Programs

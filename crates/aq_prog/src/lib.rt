@@ -3,9 +3,11 @@
 
 mod gate;
 pub mod laws;
+mod program;
 mod stmt;
 mod table;
 
 pub use gate::{Entry, Gate, Matrix};
+pub use program::{BitRegister, Program};
 pub use stmt::{Guard, Stmt};
 pub use table::{Rows, gate_named};
