@@ -6,3 +6,4 @@ pub mod Annotations
 pub mod Statements
 pub mod Elaborated
 pub mod Texts
+pub mod Bounds

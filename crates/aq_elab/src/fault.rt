@@ -1,4 +1,5 @@
 use aq_lex::Place;
+use std::alloc::AllocError;
 
 /// Why a tree is no program: the first fault, in the order in which the rules are checked.
 #[derive(Clone, Copy, Debug, PartialEq, Eq)]
@@ -37,4 +38,15 @@ pub enum ElabFault {
     DeclaredInBlock { at: Place },
     /// Memory ran out.
     Memory,
+}
+
+impl From<AllocError> for ElabFault {
+    ghost use Rattle.std.specs.Prelude.{◌≡◌};
+    ghost use Rattle.aq_elab.specs.declared.fault.ElabFault.TheVariants.{Memory};
+
+    ghost from_gives = { λ _ e. e ≡ Memory };
+
+    fn from(_error: AllocError) -> ElabFault {
+        ElabFault::Memory
+    }
 }

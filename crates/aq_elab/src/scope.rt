@@ -1,11 +1,16 @@
 //! What the statements before a place have made known.
-ghost use Rattle.std.specs.Prelude.{◌≡◌};
-ghost use Rattle.aq_elab.specs.Known.{Gives, nothing_known};
-ghost use Rattle.aq_elab.specs.Spots.{span_of};
+ghost use Rattle.std.specs.Prelude.{◌≡◌, ◌≤◌, None, IfSome, IfOk, OnOk, IfErr};
+ghost use Rattle.aq_elab.specs.Known.{Gives, nothing_known, declared_as};
+ghost use Rattle.aq_elab.specs.Annotations.{claim_number, with_claim};
+ghost use Rattle.aq_elab.specs.Bounds.{IsShort, with_name};
+ghost use Rattle.aq_prog.specs.Programs.{most_qubits, most_bits};
+ghost use Rattle.aq_elab.specs.Spots.{span_of, part_of, is_role, width, width_of};
+ghost use Rattle.aq_elab.specs.Statements.{declaring, is_none_of, registered, counted, with_claims};
+ghost use Rattle.aq_elab.specs.declared.fault.ElabFault.TheVariants as faults;
 
 use crate::fault::ElabFault;
-use aq_lex::Text;
-use aq_parse::Spot;
+use aq_lex::{Place, Text};
+use aq_parse::{Spot, Word};
 use indexmap::{IndexMap, IndexSet};
 use std::alloc::Global;
 use std::marker::Model;
@@ -48,6 +53,66 @@ impl Model for Scope {
     ghost Value = { Known };
 
     ghost view = { λ s. record { names = s.names.entries; claims = s.claims.keys; qubits = s.qubits; bits = s.bits; statements = s.statements } };
+
+    ghost use Rattle.aq_elab.specs.Bounds.{IsWithin};
+
+    ghost invariant = { λ s. IsWithin s.names.entries s.qubits s.bits };
+}
+
+/// How many qubits or bits a size means.
+pub(crate) fn width_of(size: Option<u32>) -> u32
+    ensures { result ≡ width_of size }
+{
+    size.unwrap_or(1)
+}
+
+/// Whether the size is 0.
+fn is_none_of(size: Option<u32>) -> bool
+    ensures { result ≡ is_none_of size }
+{
+    match size {
+        Some(size) => size == 0,
+        None => false,
+    }
+}
+
+impl Role {
+    /// Whether both are the same.
+    fn is(self, other: Role) -> bool
+        ensures { result ≡ is_role other self }
+    {
+        match self {
+            Role::Qubit => matches!(other, Role::Qubit),
+            Role::Bit => matches!(other, Role::Bit),
+        }
+    }
+}
+
+impl Span {
+    /// How many qubits or bits it is.
+    pub(crate) fn width(self) -> u32
+        ensures { result ≡ width self }
+    {
+        width_of(self.size)
+    }
+
+    /// The part that the spot means: all of it where the spot has no index.
+    fn part(self, spot: &Spot) -> Result<Span, ElabFault>
+        requires short { IsShort self }
+        ensures part { Gives (λ s. s) result (part_of spot.now self spot.now.index) }
+        ensures short { IfOk result IsShort }
+    {
+        let Some(index) = spot.index else {
+            return Ok(self);
+        };
+        match self.size {
+            Some(size) if index < size => Ok(Span {
+                first: self.first + index,
+                size: None,
+            }),
+            _ => Err(ElabFault::IndexOut { at: spot.name.at }),
+        }
+    }
 }
 
 impl Scope {
@@ -64,10 +129,136 @@ impl Scope {
         }
     }
 
+    /// What a name was declared as.
+    fn declared_as(&self, name: &Text) -> Option<Declared>
+        ensures declared { result ≡ declared_as self.now.names name.now }
+        ensures short { IfSome result (λ d. IsShort d.span) }
+    {
+        self.names.get(name).copied()
+    }
+
     /// The qubits or bits that a spot stands for.
     pub(crate) fn span_of(&self, role: Role, spot: &Spot) -> Result<Span, ElabFault>
-        ensures { Gives (λ s. s) result (span_of self.now role spot.now) }
+        ensures span { Gives (λ s. s) result (span_of self.now role spot.now) }
+        ensures short { IfOk result IsShort }
     {
-        Err(ElabFault::Memory)
+        match self.declared_as(&spot.name.text) {
+            Some(declared) if declared.role.is(role) => declared.span.part(spot),
+            _ => Err(ElabFault::UnknownName { at: spot.name.at }),
+        }
+    }
+
+    /// Adds a name that isn't there, and the new numbers of qubits and of bits. The only fault is want of memory.
+    fn add(
+        &mut self,
+        alloc: Global,
+        name: &Text,
+        declared: Declared,
+        qubits: u32,
+        bits: u32,
+    ) -> Result<(), ElabFault>
+        requires absent { declared_as self.old.names name.now ≡ None }
+        requires short { IsShort declared.span }
+        requires few_qubits { qubits ≤ most_qubits }
+        requires few_bits { bits ≤ most_bits }
+        ensures added { OnOk result (self.new ≡ with_name self.old name.now declared qubits bits) }
+        ensures memory { IfErr result (λ e. e ≡ faults.Memory) }
+    {
+        let key = Text::from_slice(alloc, name.as_slice())?;
+        let Ok(_) = self.names.insert(key, declared) else {
+            return Err(ElabFault::Memory);
+        };
+        self.qubits = qubits;
+        self.bits = bits;
+        Ok(())
+    }
+
+    /// Declares qubits or bits behind those of their role. A fault leaves the numbers as they were.
+    fn register(
+        &mut self,
+        alloc: Global,
+        role: Role,
+        name: &Word,
+        size: Option<u32>,
+    ) -> Result<(), ElabFault>
+        requires absent { declared_as self.old.names name.now.text ≡ None }
+        ensures { Gives (λ u. self.new) result (registered role name.now size self.old) }
+    {
+        let wide = u64::from(width_of(size));
+        match role {
+            Role::Qubit => {
+                let first = self.qubits;
+                let all = u64::from(first) + wide;
+                if all > 16 {
+                    return Err(ElabFault::TooManyQubits { at: name.at });
+                }
+                let declared = Declared {
+                    role,
+                    span: Span { first, size },
+                };
+                self.add(alloc, &name.text, declared, all as u32, self.bits)
+            }
+            Role::Bit => {
+                let first = self.bits;
+                let all = u64::from(first) + wide;
+                if all > 32 {
+                    return Err(ElabFault::TooManyBits { at: name.at });
+                }
+                let declared = Declared {
+                    role,
+                    span: Span { first, size },
+                };
+                self.add(alloc, &name.text, declared, self.qubits, all as u32)
+            }
+        }
+    }
+
+    /// Declares a name: qubits or bits behind those of their role.
+    #[tactic(auto, unfolding(crate::specs::Statements::declaring))]
+    pub(crate) fn declare(
+        &mut self,
+        alloc: Global,
+        role: Role,
+        name: &Word,
+        size: Option<u32>,
+    ) -> Result<(), ElabFault>
+        ensures { Gives (λ u. self.new) result (declaring role name.now size self.old) }
+    {
+        if is_none_of(size) {
+            return Err(ElabFault::EmptyRegister { at: name.at });
+        }
+        if self.declared_as(&name.text).is_some() {
+            return Err(ElabFault::TwiceDeclared { at: name.at });
+        }
+        self.register(alloc, role, name, size)
+    }
+
+    /// Counts so many statements more, which the statement at this place gives.
+    pub(crate) fn count(&mut self, at: Place, more: usize) -> Result<(), ElabFault>
+        ensures { Gives (λ u. self.new) result (counted at more self.old) }
+    {
+        match (self.statements as usize).checked_add(more) {
+            Some(all) if all <= 100_000 => {
+                self.statements = all as u32;
+                Ok(())
+            }
+            _ => Err(ElabFault::TooManyStatements { at }),
+        }
+    }
+
+    /// The number of a claim, which is a new one at its first mention. The only fault is want of memory.
+    pub(crate) fn claim(&mut self, alloc: Global, name: &Text) -> Result<u32, ElabFault>
+        ensures number { IfOk result (λ n. n ≡ claim_number self.old.claims name.now) }
+        ensures claims { OnOk result (self.new ≡ with_claims (with_claim self.old.claims name.now) self.old) }
+        ensures memory { IfErr result (λ e. e ≡ faults.Memory) }
+    {
+        let key = Text::from_slice(alloc, name.as_slice())?;
+        let Ok((number, _)) = self.claims.insert_full(key) else {
+            return Err(ElabFault::Memory);
+        };
+        let Ok(number) = u32::try_from(number) else {
+            return Err(ElabFault::Memory);
+        };
+        Ok(number)
     }
 }
