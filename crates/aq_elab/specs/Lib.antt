@@ -7,3 +7,4 @@ pub mod Statements
 pub mod Elaborated
 pub mod Texts
 pub mod Bounds
+pub mod Behind

@@ -4,6 +4,7 @@
 mod calls;
 mod elaborator;
 mod fault;
+mod notes;
 mod recipe;
 mod scope;
 

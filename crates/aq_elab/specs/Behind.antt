@@ -1,0 +1,37 @@
+-- Statements that are put behind those of a list.
+use Rattle.std.specs.Prelude.{ℕ, Bool, List, ◌++◌, Option, Some, None, Ok, Err}
+use Rattle.aq_parse.specs.declared.tree.Note.{Note}
+use Rattle.aq_prog.specs.declared.stmt.Stmt.{Stmt}
+use Rattle.aq_elab.specs.Known.{Known, Checked, ◌>>=◌}
+use Rattle.aq_elab.specs.Annotations.{Annotations, note_taken, notes_taken}
+use Rattle.aq_elab.specs.Statements.{Step, step, with_claims}
+
+-- more statements behind those of a list
+abbrev pub listed : List Stmt → Checked (List Stmt) → Checked (List Stmt)
+listed before (Ok more) = Ok (before ++ more)
+listed before (Err e) = Err e
+
+-- the statements of a step behind those of a list
+abbrev pub behind : List Stmt → Checked Step → Checked Step
+behind before (Ok s) = Ok (step s.known (before ++ s.statements))
+behind before (Err e) = Err e
+
+-- what is known, a list with the asserts behind it, and the invariant
+pub record Noted : Type 0 where
+  pub known : Known
+  pub statements : List Stmt
+  pub invariant : Option ℕ
+
+abbrev pub annotations_of : Noted → Annotations
+annotations_of n = record { claims = n.known.claims; asserts = n.statements; invariant = n.invariant }
+
+abbrev pub noted_by : Known → Checked Annotations → Checked Noted
+noted_by known (Ok a) = Ok (record { known = with_claims a.claims known; statements = a.asserts; invariant = a.invariant })
+noted_by known (Err e) = Err e
+
+-- one annotation, and all, behind those before
+abbrev pub noted : Bool → Note → Noted → Checked Noted
+noted is_loop note n = noted_by n.known (note_taken is_loop note (annotations_of n))
+
+abbrev pub all_noted : Bool → List Note → Noted → Checked Noted
+all_noted is_loop notes n = noted_by n.known (notes_taken is_loop notes (annotations_of n))
