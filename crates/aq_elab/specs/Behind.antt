@@ -1,9 +1,12 @@
 -- Statements that are put behind those of a list.
-use Rattle.std.specs.Prelude.{ℕ, Bool, List, ◌++◌, Option, Some, None, Ok, Err}
+use Rattle.std.specs.Prelude.{ℕ, Bool, List, [], ◌++◌, Option, Some, None, Ok, Err}
 use Rattle.aq_parse.specs.declared.tree.Note.{Note}
+use Rattle.aq_parse.specs.declared.tree.Spot.{Spot}
 use Rattle.aq_prog.specs.declared.stmt.Stmt.{Stmt}
-use Rattle.aq_elab.specs.Known.{Known, Checked, ◌>>=◌}
+use Rattle.aq_elab.specs.Known.{Known, Checked, ◌>>=◌, all_checked}
 use Rattle.aq_elab.specs.Annotations.{Annotations, note_taken, notes_taken}
+use Rattle.aq_elab.specs.Spots.{span_of}
+use Rattle.aq_elab.specs.declared.scope.Role.TheVariants as roles
 use Rattle.aq_elab.specs.Statements.{Step, step, with_claims}
 
 -- more statements behind those of a list
@@ -15,6 +18,10 @@ listed before (Err e) = Err e
 abbrev pub behind : List Stmt → Checked Step → Checked Step
 behind before (Ok s) = Ok (step s.known (before ++ s.statements))
 behind before (Err e) = Err e
+
+-- a barrier gives no statement
+abbrev pub barred : Known → List Spot → Checked (List Stmt)
+barred known spots = all_checked (span_of known roles.Qubit) spots >>= λ spans. Ok []
 
 -- what is known, a list with the asserts behind it, and the invariant
 pub record Noted : Type 0 where

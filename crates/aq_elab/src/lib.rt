@@ -7,6 +7,7 @@ mod fault;
 mod notes;
 mod recipe;
 mod scope;
+mod simple;
 
 pub use elaborator::elaborate;
 pub use fault::ElabFault;

@@ -1,10 +1,10 @@
 //! What the statements before a place have made known.
-ghost use Rattle.std.specs.Prelude.{◌≡◌, ◌≤◌, None, IfSome, IfOk, OnOk, IfErr};
+ghost use Rattle.std.specs.Prelude.{◌≡◌, ◌<◌, ◌≤◌, None, IfSome, IfOk, OnOk, IfErr};
 ghost use Rattle.aq_elab.specs.Known.{Gives, nothing_known, declared_as};
 ghost use Rattle.aq_elab.specs.Annotations.{claim_number, with_claim};
 ghost use Rattle.aq_elab.specs.Bounds.{IsShort, with_name};
 ghost use Rattle.aq_prog.specs.Programs.{most_qubits, most_bits};
-ghost use Rattle.aq_elab.specs.Spots.{span_of, part_of, is_role, width, width_of};
+ghost use Rattle.aq_elab.specs.Spots.{span_of, part_of, is_role, width, width_of, member};
 ghost use Rattle.aq_elab.specs.Statements.{declaring, is_none_of, registered, counted, with_claims};
 ghost use Rattle.aq_elab.specs.declared.fault.ElabFault.TheVariants as faults;
 
@@ -94,6 +94,18 @@ impl Span {
         ensures { result ≡ width self }
     {
         width_of(self.size)
+    }
+
+    /// One of them by its number.
+    pub(crate) fn member(self, number: u32) -> u32
+        requires short { IsShort self }
+        requires there { number < width self }
+        ensures { result ≡ member self number }
+    {
+        match self.size {
+            Some(_) => self.first + number,
+            None => self.first,
+        }
     }
 
     /// The part that the spot means: all of it where the spot has no index.
