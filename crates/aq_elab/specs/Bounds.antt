@@ -1,10 +1,12 @@
 -- How large the numbers of what is known are, and how a name is added to it.
-use Rattle.std.specs.Prelude.{ℕ, ◌+◌, ◌≤◌, List, [], ◌∷◌, ◌++◌, All}
+use Rattle.std.specs.Prelude.{ℕ, ◌+◌, ◌≤◌, List, [], ◌∷◌, ◌++◌, All, Option}
 use Rattle.aq_prog.specs.Programs.{most_qubits, most_bits}
 use Rattle.aq_elab.specs.Known.{Known}
 use Rattle.aq_elab.specs.Spots.{width}
 use Rattle.aq_elab.specs.declared.scope.Declared.{Declared}
 use Rattle.aq_elab.specs.declared.scope.Span.{Span}
+use Rattle.aq_elab.specs.declared.scope.Role.{Role}
+use Rattle.aq_elab.specs.declared.scope.Role.TheVariants as roles
 
 -- the number behind the last one of a span
 abbrev pub end_of : Span → ℕ
@@ -29,3 +31,8 @@ with_name known name declared qubits bits = record {
   bits = bits;
   statements = known.statements;
 }
+
+-- the next qubits or bits that aren't declared
+abbrev pub next_span : Role → Option ℕ → Known → Span
+next_span roles.Qubit size known = record { first = known.qubits; size = size }
+next_span roles.Bit size known = record { first = known.bits; size = size }

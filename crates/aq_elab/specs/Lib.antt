@@ -8,3 +8,4 @@ pub mod Elaborated
 pub mod Texts
 pub mod Bounds
 pub mod Behind
+pub mod Nodes

@@ -8,6 +8,7 @@ mod notes;
 mod recipe;
 mod scope;
 mod simple;
+mod statements;
 
 pub use elaborator::elaborate;
 pub use fault::ElabFault;

@@ -2,7 +2,7 @@
 ghost use Rattle.std.specs.Prelude.{◌≡◌, ◌<◌, ◌≤◌, None, IfSome, IfOk, OnOk, IfErr};
 ghost use Rattle.aq_elab.specs.Known.{Gives, nothing_known, declared_as};
 ghost use Rattle.aq_elab.specs.Annotations.{claim_number, with_claim};
-ghost use Rattle.aq_elab.specs.Bounds.{IsShort, with_name};
+ghost use Rattle.aq_elab.specs.Bounds.{IsShort, with_name, next_span};
 ghost use Rattle.aq_prog.specs.Programs.{most_qubits, most_bits};
 ghost use Rattle.aq_elab.specs.Spots.{span_of, part_of, is_role, width, width_of, member};
 ghost use Rattle.aq_elab.specs.Statements.{declaring, is_none_of, registered, counted, with_claims};
@@ -185,16 +185,18 @@ impl Scope {
         Ok(())
     }
 
-    /// Declares qubits or bits behind those of their role. A fault leaves the numbers as they were.
+    /// Declares qubits or bits behind those of their role, and gives them.
     fn register(
         &mut self,
         alloc: Global,
         role: Role,
         name: &Word,
         size: Option<u32>,
-    ) -> Result<(), ElabFault>
+    ) -> Result<Span, ElabFault>
         requires absent { declared_as self.old.names name.now.text ≡ None }
-        ensures { Gives (λ u. self.new) result (registered role name.now size self.old) }
+        ensures known { Gives (λ s. self.new) result (registered role name.now size self.old) }
+        ensures span { IfOk result (λ s. s ≡ next_span role size self.old) }
+        ensures short { IfOk result IsShort }
     {
         let wide = u64::from(width_of(size));
         match role {
@@ -204,11 +206,10 @@ impl Scope {
                 if all > 16 {
                     return Err(ElabFault::TooManyQubits { at: name.at });
                 }
-                let declared = Declared {
-                    role,
-                    span: Span { first, size },
-                };
-                self.add(alloc, &name.text, declared, all as u32, self.bits)
+                let span = Span { first, size };
+                let declared = Declared { role, span };
+                self.add(alloc, &name.text, declared, all as u32, self.bits)?;
+                Ok(span)
             }
             Role::Bit => {
                 let first = self.bits;
@@ -216,16 +217,15 @@ impl Scope {
                 if all > 32 {
                     return Err(ElabFault::TooManyBits { at: name.at });
                 }
-                let declared = Declared {
-                    role,
-                    span: Span { first, size },
-                };
-                self.add(alloc, &name.text, declared, self.qubits, all as u32)
+                let span = Span { first, size };
+                let declared = Declared { role, span };
+                self.add(alloc, &name.text, declared, self.qubits, all as u32)?;
+                Ok(span)
             }
         }
     }
 
-    /// Declares a name: qubits or bits behind those of their role.
+    /// Declares a name: qubits or bits behind those of their role. Gives them.
     #[tactic(auto, unfolding(crate::specs::Statements::declaring))]
     pub(crate) fn declare(
         &mut self,
@@ -233,8 +233,10 @@ impl Scope {
         role: Role,
         name: &Word,
         size: Option<u32>,
-    ) -> Result<(), ElabFault>
-        ensures { Gives (λ u. self.new) result (declaring role name.now size self.old) }
+    ) -> Result<Span, ElabFault>
+        ensures known { Gives (λ s. self.new) result (declaring role name.now size self.old) }
+        ensures span { IfOk result (λ s. s ≡ next_span role size self.old) }
+        ensures short { IfOk result IsShort }
     {
         if is_none_of(size) {
             return Err(ElabFault::EmptyRegister { at: name.at });

@@ -1,17 +1,18 @@
 //! Measurements, resets, barriers, declarations and tests.
 ghost use Rattle.std.specs.Prelude.{◌≡◌, ◌<◌, List, [], Ok};
 ghost use Rattle.aq_elab.specs.Known.{Gives};
-ghost use Rattle.aq_elab.specs.Behind.{listed, barred};
+ghost use Rattle.aq_elab.specs.Behind.{listed, behind, barred, called};
 ghost use Rattle.aq_elab.specs.Bounds.{IsShort};
 ghost use Rattle.aq_elab.specs.Spots.{width, member};
-ghost use Rattle.aq_elab.specs.Statements.{unpaired, paired, measured, resets, guard_of};
+ghost use Rattle.aq_elab.specs.Statements.{step, unpaired, paired, measured, resets, bits_declared, guard_of};
 ghost use Rattle.aq_prog.specs.declared.stmt.Stmt.{Stmt};
 
+use crate::calls::gates_of_call;
 use crate::fault::ElabFault;
 use crate::scope::{Role, Scope, Span};
 use aq_lex::Place;
-use aq_parse::{Spot, Test, Word};
-use aq_prog::{Guard, Stmt};
+use aq_parse::{Angle, Spot, Test, Word};
+use aq_prog::{Gate, Guard, Stmt};
 use sqlite_items::Items;
 use std::alloc::Global;
 
@@ -88,6 +89,45 @@ pub(crate) fn barrier(scope: &Scope, spots: &[Spot]) -> Result<(), ElabFault>
 {
     for spot in spots {
         let _ = scope.span_of(Role::Qubit, spot)?;
+    }
+    Ok(())
+}
+
+/// Declares bits, and measures into them where that is said.
+#[tactic(auto, unfolding(crate::specs::Statements::measured_into))]
+pub(crate) fn declare_bits(
+    alloc: Global,
+    name: &Word,
+    size: Option<u32>,
+    from: &Option<Spot>,
+    scope: &mut Scope,
+    out: &mut Items<Stmt>,
+) -> Result<(), ElabFault>
+    ensures { Gives (λ u. step scope.new out.new) result (behind out.old (bits_declared name.now size from.now scope.old)) }
+{
+    let bits = scope.declare(alloc, Role::Bit, name, size)?;
+    let Some(from) = from else {
+        return Ok(());
+    };
+    let qubits = scope.span_of(Role::Qubit, from)?;
+    measure_into(from.name.at, qubits, bits, out)
+}
+
+/// Plays the gates of a call.
+pub(crate) fn call(
+    alloc: Global,
+    scope: &Scope,
+    name: &Word,
+    angle: Option<Angle>,
+    spots: &[Spot],
+    out: &mut Items<Stmt>,
+) -> Result<(), ElabFault>
+    ensures { Gives (λ u. out.new) result (listed out.old (called scope.now name.now angle spots.now)) }
+{
+    let gates = gates_of_call(alloc, scope, name, angle, spots)?;
+    for gate in gates.as_slice() {
+        let controls = Items::from_slice(alloc, gate.controls.as_slice())?;
+        out.push(Stmt::Gate(Gate::new(controls, gate.target, gate.matrix.rows)))?;
     }
     Ok(())
 }
