@@ -1,1 +1,3 @@
 mod ScopeLaws
+mod NoteLaws
+mod StatementLaws

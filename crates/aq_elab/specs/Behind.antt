@@ -1,9 +1,12 @@
 -- Statements that are put behind those of a list.
-use Rattle.std.specs.Prelude.{ℕ, Bool, List, [], ◌++◌, map, Option, Some, None, Ok, Err}
+use Rattle.std.specs.Prelude.{ℕ, ◌+◌, Bool, List, [], ◌++◌, map, Option, Some, None, Ok, Err}
 use Rattle.aq_parse.specs.declared.tree.Note.{Note}
 use Rattle.aq_parse.specs.declared.tree.Angle.{Angle}
 use Rattle.aq_parse.specs.declared.tree.Spot.{Spot}
+use Rattle.aq_parse.specs.declared.tree.Test.{Test}
 use Rattle.aq_parse.specs.declared.tree.Word.{Word}
+use Rattle.aq_lex.specs.declared.place.Place.{Place}
+use Rattle.aq_prog.specs.declared.stmt.Guard.{Guard}
 use Rattle.aq_parse.specs.declared.tree.Node.TheOpen.{Node-F}
 use Rattle.aq_prog.specs.declared.stmt.Stmt.{Stmt}
 use Rattle.aq_prog.specs.declared.stmt.Stmt.TheVariants as stmt
@@ -12,7 +15,7 @@ use Rattle.aq_elab.specs.Known.{Known, Checked, ◌>>=◌, all_checked}
 use Rattle.aq_elab.specs.Annotations.{Annotations, note_taken, notes_taken}
 use Rattle.aq_elab.specs.Spots.{span_of}
 use Rattle.aq_elab.specs.declared.scope.Role.TheVariants as roles
-use Rattle.aq_elab.specs.Statements.{Step, step, with_claims, declaring, bits_declared, measured, resets}
+use Rattle.aq_elab.specs.Statements.{Step, step, with_claims, declaring, bits_declared, measured, resets, guard_of, counted}
 
 -- more statements behind those of a list
 abbrev pub listed : List Stmt → Checked (List Stmt) → Checked (List Stmt)
@@ -43,6 +46,10 @@ own (Node-F.Barrier spots) known = barred known spots >>= λ more. Ok (step know
 own (Node-F.Call name angle spots) known = called known name angle spots >>= λ more. Ok (step known more)
 own (Node-F.If test when_true when_false) known = Ok (step known [])
 own (Node-F.While test body) known = Ok (step known [])
+
+-- the guard of a test, and what is known once its statement is counted with its asserts
+abbrev pub headed : Test → Place → ℕ → Known → Checked (Guard × Known)
+headed test at asserts known = guard_of known test >>= λ guard. counted at (asserts + 1) known >>= λ k. Ok (guard, k)
 
 -- what is known, a list with the asserts behind it, and the invariant
 pub record Noted : Type 0 where

@@ -1,5 +1,5 @@
 //! What the statements before a place have made known.
-ghost use Rattle.std.specs.Prelude.{◌≡◌, ◌<◌, ◌≤◌, None, IfSome, IfOk, OnOk, IfErr};
+ghost use Rattle.std.specs.Prelude.{◌≡◌, ◌+◌, ◌<◌, ◌≤◌, None, IfSome, IfOk, OnOk, IfErr};
 ghost use Rattle.aq_elab.specs.Known.{Gives, nothing_known, declared_as};
 ghost use Rattle.aq_elab.specs.Annotations.{claim_number, with_claim};
 ghost use Rattle.aq_elab.specs.Bounds.{IsShort, with_name, next_span};
@@ -247,10 +247,13 @@ impl Scope {
         self.register(alloc, role, name, size)
     }
 
-    /// Counts so many statements more, which the statement at this place gives.
-    pub(crate) fn count(&mut self, at: Place, more: usize) -> Result<(), ElabFault>
-        ensures { Gives (λ u. self.new) result (counted at more self.old) }
+    /// Counts the asserts and the own statements of the statement at this place.
+    pub(crate) fn count(&mut self, at: Place, asserts: usize, own: usize) -> Result<(), ElabFault>
+        ensures { Gives (λ u. self.new) result (counted at (asserts + own) self.old) }
     {
+        let Some(more) = asserts.checked_add(own) else {
+            return Err(ElabFault::TooManyStatements { at });
+        };
         match (self.statements as usize).checked_add(more) {
             Some(all) if all <= 100_000 => {
                 self.statements = all as u32;
