@@ -1,0 +1,3 @@
+pub mod ValidLists
+pub mod ValidLevels
+pub mod ValidKnown
