@@ -1,3 +1,4 @@
 pub mod ValidLists
 pub mod ValidLevels
 pub mod ValidKnown
+pub mod ValidCalls
