@@ -2,3 +2,4 @@ pub mod ValidLists
 pub mod ValidLevels
 pub mod ValidKnown
 pub mod ValidCalls
+pub mod ValidNotes
