@@ -3,3 +3,4 @@ pub mod ValidLevels
 pub mod ValidKnown
 pub mod ValidCalls
 pub mod ValidNotes
+pub mod ValidStatements
