@@ -4,3 +4,5 @@ pub mod ValidKnown
 pub mod ValidCalls
 pub mod ValidNotes
 pub mod ValidStatements
+pub mod ValidTrees
+pub mod ValidLaws

@@ -79,7 +79,7 @@ module _ (Q : Stmt-F Stmt → Type 0) where
       All-tabulate (every-Stmt Q) (width qubits) (λ i. stmt.Measure (member qubits i) None) (λ i lt.
       every-measure Q (member qubits i) None (allows (Stmt-F.Measure (member qubits i) None) (member-below known.qubits qubits i h (reaches i qubits.size lt), tt) tt))
 
-  measured-fine : (known : Known) (from : Spot) (into : Option Spot) (into_first : Bool) → IsSound known → IfOk (measured known from into into_first) (AreFine known)
+  pub measured-fine : (known : Known) (from : Spot) (into : Option Spot) (into_first : Bool) → IsSound known → IfOk (measured known from into into_first) (AreFine known)
   unfolding measured
   measured-fine known from None into_first sound =
       follows (IsWithin known.qubits) (AreFine known) (span_of known roles.Qubit from) (λ qubits. Ok (unpaired qubits)) (span_of-within known roles.Qubit from sound) (λ qubits h. unpaired-fine known qubits h)
@@ -96,21 +96,21 @@ module _ (Q : Stmt-F Stmt → Type 0) where
   measured_into-fine known bits (Some from) sound k =
       follows (IsWithin known.qubits) (AreFine known) (span_of known roles.Qubit from) (λ qubits. paired from.name.at qubits bits) (span_of-within known roles.Qubit from sound) (λ qubits h. paired-fine known from.name.at qubits bits h k)
 
-  resets-fine : (known : Known) (spot : Spot) → IsSound known → IfOk (resets known spot) (AreFine known)
+  pub resets-fine : (known : Known) (spot : Spot) → IsSound known → IfOk (resets known spot) (AreFine known)
   unfolding resets
   resets-fine known spot sound =
       follows (IsWithin known.qubits) (AreFine known) (span_of known roles.Qubit spot) (λ qubits. Ok (tabulate (width qubits) (λ i. stmt.Reset (member qubits i)))) (span_of-within known roles.Qubit spot sound) (λ qubits h allows.
       All-tabulate (every-Stmt Q) (width qubits) (λ i. stmt.Reset (member qubits i)) (λ i lt.
       every-reset Q (member qubits i) (allows (Stmt-F.Reset (member qubits i)) (member-below known.qubits qubits i h (reaches i qubits.size lt)) tt)))
 
-  barrier-fine : (known : Known) (spots : List Spot) → IfOk (all_checked (span_of known roles.Qubit) spots >>= λ spans. Ok []) (AreFine known)
+  pub barrier-fine : (known : Known) (spots : List Spot) → IfOk (all_checked (span_of known roles.Qubit) spots >>= λ spans. Ok []) (AreFine known)
   barrier-fine known spots = by (all_checked (span_of known roles.Qubit) spots)
     where
       by : (c : Checked (List Span)) → IfOk (c >>= λ spans. Ok []) (AreFine known)
       by (Ok spans) = λ allows. All-nil (every-Stmt Q)
       by (Err e) = tt
 
-  call-fine : (known : Known) (name : Word) (angle : Option Angle) (spots : List Spot) → IsSound known → IfOk (gates_of_call known name angle spots >>= λ gates. Ok (map stmt.Gate gates)) (AreFine known)
+  pub call-fine : (known : Known) (name : Word) (angle : Option Angle) (spots : List Spot) → IsSound known → IfOk (gates_of_call known name angle spots >>= λ gates. Ok (map stmt.Gate gates)) (AreFine known)
   call-fine known name angle spots sound =
       follows (All (IsValidGate known.qubits)) (AreFine known) (gates_of_call known name angle spots) (λ gates. Ok (map stmt.Gate gates)) (gates_of_call-valid known name angle spots sound) (λ gates valid allows.
       All-map (every-Stmt Q) stmt.Gate gates (All-weaker (IsValidGate known.qubits) (λ gate. every-Stmt Q (stmt.Gate gate)) (λ gate h. every-gate Q gate (allows (Stmt-F.Gate gate) h tt)) gates valid))
@@ -138,26 +138,118 @@ module _ (Q : Stmt-F Stmt → Type 0) where
   abbrev pub IsGood : Meaning → Type 0
   IsGood m = (inside : Bool) (known : Known) → IsSound known → IfOk (m inside known) (IsFine known)
 
-  plain-good : (own : Known → Checked (List Stmt)) → ((known : Known) → IsSound known → IfOk (own known) (AreFine known)) → IsGoodNode (plain own)
+  pub plain-good : (own : Known → Checked (List Stmt)) → ((known : Known) → IsSound known → IfOk (own known) (AreFine known)) → IsGoodNode (plain own)
   plain-good own h at invariant asserts known sound claim =
       follows (AreFine known) (IsFine known) (own known) (flat at asserts known) (h known sound) (λ statements fine. flat-fine at asserts known statements sound fine)
 
-  declaration-good : (own : Known → Checked Step) → ((known : Known) → IsSound known → IfOk (own known) (IsFine known)) → IsGoodNode (declaration own)
+  pub declaration-good : (own : Known → Checked Step) → ((known : Known) → IsSound known → IfOk (own known) (IsFine known)) → IsGoodNode (declaration own)
   declaration-good own h at invariant asserts known sound claim =
       follows (IsFine known) (IsFine known) (own known) (λ s. flat at asserts s.known s.statements) (h known sound) (λ s fine.
       IfOk-weaker (flat at asserts s.known s.statements) (IsFine s.known) (IsFine known) (λ t more. fine-since known s.known t fine.grown more) (flat-fine at asserts s.known s.statements fine.sound fine.statements))
 
-  include-fine : (known : Known) → IsSound known → IsFine known (step known [])
+  pub include-fine : (known : Known) → IsSound known → IsFine known (step known [])
   include-fine known sound = record { sound = sound; grown = not_less known; statements = λ allows. All-nil (every-Stmt Q) }
 
-  qubits-fine : (name : Word) (size : Option ℕ) (known : Known) → IsSound known → IfOk (declaring roles.Qubit name size known >>= λ k. Ok (step k [])) (IsFine known)
+  pub qubits-fine : (name : Word) (size : Option ℕ) (known : Known) → IsSound known → IfOk (declaring roles.Qubit name size known >>= λ k. Ok (step k [])) (IsFine known)
   qubits-fine name size known sound =
       follows (IsDeclared roles.Qubit size known) (IsFine known) (declaring roles.Qubit name size known) (λ k. Ok (step k [])) (declaring-sound roles.Qubit name size known sound) (λ k d.
       record { sound = d.sound; grown = d.grown; statements = λ allows. All-nil (every-Stmt Q) })
 
-  bits-fine : (name : Word) (size : Option ℕ) (from : Option Spot) (known : Known) → IsSound known → IfOk (bits_declared name size from known) (IsFine known)
+  pub bits-fine : (name : Word) (size : Option ℕ) (from : Option Spot) (known : Known) → IsSound known → IfOk (bits_declared name size from known) (IsFine known)
   bits-fine name size from known sound =
       let span : Span = record { first = known.bits; size = size } in
       follows (IsDeclared roles.Bit size known) (IsFine known) (declaring roles.Bit name size known) (λ k. measured_into k span from >>= λ statements. Ok (step k statements)) (declaring-sound roles.Bit name size known sound) (λ k d.
       follows (AreFine k) (IsFine known) (measured_into k span from) (λ statements. Ok (step k statements)) (measured_into-fine k span from d.sound d.within) (λ statements fine.
       record { sound = d.sound; grown = d.grown; statements = fine }))
+
+  -- ---- bodies
+
+  pub in_order-good : (ms : List Meaning) → AllByRecursion IsGood ms → IsGood (in_order ms)
+  in_order-good [] h inside known sound = include-fine known sound
+  in_order-good (m ∷ rest) h inside known sound =
+      follows (IsFine known) (IsFine known) (m inside known) (λ s. in_order rest inside s.known >>= λ r. Ok (step r.known (s.statements ++ r.statements))) (h.0 inside known sound) (λ s fine.
+      follows (IsFine s.known) (IsFine known) (in_order rest inside s.known) (λ r. Ok (step r.known (s.statements ++ r.statements))) (in_order-good rest h.1 inside s.known fine.sound) (λ r more.
+      record {
+        sound = more.sound;
+        grown = grown_twice known s.known r.known fine.grown more.grown;
+        statements = λ allows. All-append (every-Stmt Q) s.statements r.statements (fine.statements (Allows-before Q s.known r.known more.grown allows)) (more.statements allows);
+      }))
+
+  if-fine : (known k : Known) (guard : Guard) (first second : Step) → guard.bit < known.bits → IsGrown known k → IsFine k first → IsFine first.known second → IsFine known (step second.known (stmt.If guard first.statements second.statements ∷ []))
+  if-fine known k guard first second below g one two =
+      let behind = grown_twice known k first.known g one.grown in
+      let whole = grown_twice known first.known second.known behind two.grown in
+      record {
+        sound = two.sound;
+        grown = whole;
+        statements = λ allows. All-cons (every-Stmt Q) (stmt.If guard first.statements second.statements) []
+            (every-if Q guard first.statements second.statements (one.statements (Allows-before Q first.known second.known two.grown allows)) (two.statements allows)
+            (allows (Stmt-F.If guard first.statements second.statements) (omega (arith, whole.bits)) tt))
+            (All-nil (every-Stmt Q));
+      }
+
+  pub branching-good : (test : Test) (when_true when_false : List Meaning) → IsGood (in_order when_true) → IsGood (in_order when_false) → IsGoodNode (branching test when_true when_false)
+  branching-good test when_true when_false h k at invariant asserts known sound claim =
+      follows (λ (g : Guard). g.bit < known.bits) (IsFine known) (guard_of known test)
+      (λ guard. counted at (asserts + 1) known >>= λ k. in_order when_true true k >>= λ first. in_order when_false true first.known >>= λ second. Ok (step second.known (stmt.If guard first.statements second.statements ∷ [])))
+      (guard_of-below known test sound) (λ guard below.
+      follows (IsStill known) (IsFine known) (counted at (asserts + 1) known)
+      (λ k. in_order when_true true k >>= λ first. in_order when_false true first.known >>= λ second. Ok (step second.known (stmt.If guard first.statements second.statements ∷ [])))
+      (counted-still at (asserts + 1) known sound) (λ start still.
+      follows (IsFine start) (IsFine known) (in_order when_true true start)
+      (λ first. in_order when_false true first.known >>= λ second. Ok (step second.known (stmt.If guard first.statements second.statements ∷ [])))
+      (h true start still.sound) (λ first one.
+      follows (IsFine first.known) (IsFine known) (in_order when_false true first.known)
+      (λ second. Ok (step second.known (stmt.If guard first.statements second.statements ∷ [])))
+      (k true first.known one.sound) (λ second two.
+      if-fine known start guard first second below still.grown one two))))
+
+  while-fine : (known k : Known) (guard : Guard) (claim line : ℕ) (inner : Step) → guard.bit < known.bits → claim < length known.claims → IsGrown known k → IsFine k inner → IsFine known (step inner.known (stmt.While guard claim inner.statements line ∷ []))
+  while-fine known k guard claim line inner below named g body =
+      let whole = grown_twice known k inner.known g body.grown in
+      record {
+        sound = body.sound;
+        grown = whole;
+        statements = λ allows. All-cons (every-Stmt Q) (stmt.While guard claim inner.statements line) []
+            (every-while Q guard claim inner.statements line (body.statements allows)
+            (allows (Stmt-F.While guard claim inner.statements line) (omega (arith, whole.bits), omega (arith, whole.claims)) tt))
+            (All-nil (every-Stmt Q));
+      }
+
+  pub looping-good : (test : Test) (body : List Meaning) → IsGood (in_order body) → IsGoodNode (looping test body)
+  looping-good test body h at invariant asserts known sound named =
+      follows (λ c. c < length known.claims) (IsFine known) (or_refuse (faults.MissingInvariant at) invariant)
+      (λ claim. guard_of known test >>= λ guard. counted at (asserts + 1) known >>= λ k. in_order body true k >>= λ inner. Ok (step inner.known (stmt.While guard claim inner.statements at.line ∷ [])))
+      (given (λ c. c < length known.claims) (faults.MissingInvariant at) invariant named) (λ claim lt.
+      follows (λ (g : Guard). g.bit < known.bits) (IsFine known) (guard_of known test)
+      (λ guard. counted at (asserts + 1) known >>= λ k. in_order body true k >>= λ inner. Ok (step inner.known (stmt.While guard claim inner.statements at.line ∷ [])))
+      (guard_of-below known test sound) (λ guard below.
+      follows (IsStill known) (IsFine known) (counted at (asserts + 1) known)
+      (λ k. in_order body true k >>= λ inner. Ok (step inner.known (stmt.While guard claim inner.statements at.line ∷ [])))
+      (counted-still at (asserts + 1) known sound) (λ start still.
+      follows (IsFine start) (IsFine known) (in_order body true start)
+      (λ inner. Ok (step inner.known (stmt.While guard claim inner.statements at.line ∷ [])))
+      (h true start still.sound) (λ inner fine.
+      while-fine known start guard claim at.line inner below lt still.grown fine))))
+
+  -- ---- a statement behind its annotations
+
+  named-fine : (known : Known) (a : Annotations) (s : Step) → AreKnown Q known.claims a → IsFine (with_claims a.claims known) s → IsFine known (step s.known (a.asserts ++ s.statements))
+  named-fine known a s are fine = record {
+    sound = fine.sound;
+    grown = record { qubits = fine.grown.qubits; bits = fine.grown.bits; claims = omega (arith, are.grown, fine.grown.claims) };
+    statements = λ allows. All-append (every-Stmt Q) a.asserts s.statements (are.asserts (λ claim line lt. allows (Stmt-F.Assert claim line) (omega (arith, fine.grown.claims)) tt)) (fine.statements allows);
+  }
+
+  pub item_step-good : (item : Item-F NodeMeaning Meaning) → IsGoodNode item.node → IsGood (item_step item)
+  item_step-good item h inside known sound =
+      follows (AreKnown Q known.claims) (IsFine known) (annotations item.node.is_loop item.notes known.claims)
+      (λ a. refuse_if (inside && item.node.is_declaration) (faults.DeclaredInBlock item.at)
+      >> (item.node.run item.at a.invariant (length a.asserts) (with_claims a.claims known) >>= λ s. Ok (step s.known (a.asserts ++ s.statements))))
+      (annotations-known Q item.node.is_loop item.notes known.claims) (λ a are.
+      let start = with_claims a.claims known in
+      let run = item.node.run item.at a.invariant (length a.asserts) start in
+      unless (IsFine known) (inside && item.node.is_declaration) (faults.DeclaredInBlock item.at) (run >>= λ s. Ok (step s.known (a.asserts ++ s.statements))) (λ e.
+      follows (IsFine start) (IsFine known) run (λ s. Ok (step s.known (a.asserts ++ s.statements)))
+      (h item.at a.invariant (length a.asserts) start (record { qubits = sound.qubits; bits = sound.bits; spans = sound.spans; names = sound.names; row = sound.row }) are.invariant) (λ s fine.
+      named-fine known a s are fine)))
