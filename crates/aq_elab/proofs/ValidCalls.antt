@@ -1,5 +1,5 @@
 -- The gates of a call are valid: their spots are qubits, no one twice.
-use Rattle.std.proofs.Common.{◌≡◌, ◌≢◌, ℕ, zero, suc, ◌+◌, ◌<◌, ◌≤◌, Bool, true, false, cond, eqb, List, [], ◌∷◌, ◌++◌, map, length, Option, Some, None, IfSome, Result, Ok, Err, IfOk, refl, sym, ap, subst, ◌∙◌, arith, ℤ, pos}
+use Rattle.std.proofs.Common.{◌≡◌, ◌≢◌, ℕ, ◌+◌, ◌<◌, Bool, true, false, List, [], ◌∷◌, ◌++◌, length, Option, Some, None, IfSome, Ok, IfOk, sym, ◌∙◌, arith, ℤ, pos}
 use Rattle.std.specs.Prelude.{nat_eq, not, ◌==◌, ◌||◌, if◌then◌else◌}
 use Rattle.std.specs.List.{All, AllByRecursion, IsDistinct, list_any, flat_map}
 use Rattle.std.specs.Str.{bytes_eq}
@@ -9,11 +9,10 @@ use Rattle.std.proofs.lemmas.List.Elements.{All-nil, All-cons, All-from_recursio
 use Rattle.std.proofs.lemmas.Result.{IfOk-weaker}
 use Rattle.std.proofs.lemmas.Cmp.{nat_eq_equiv}
 use Rattle.std.proofs.lemmas.List.Folds.{list_any-append}
-use Rattle.std.proofs.lemmas.Map.Keys.{IsDistinct-head, IsDistinct-tail, IsDistinct-cons}
+use Rattle.std.proofs.lemmas.Map.Keys.{IsDistinct-cons}
 use Rattle.aq_parse.specs.declared.tree.Word.{Word}
 use Rattle.aq_parse.specs.declared.tree.Spot.{Spot}
 use Rattle.aq_parse.specs.declared.tree.Angle.{Angle}
-use Rattle.aq_prog.specs.Digits.{tabulate}
 use Rattle.aq_prog.specs.Gates.{IsValidGate, AreEntries}
 use Rattle.aq_prog.specs.Table.{rows_named, w, nil}
 use Rattle.aq_prog.specs.declared.gate.Entry.{Entry}
@@ -24,14 +23,13 @@ use Rattle.aq_elab.specs.Known.{Known, Checked, ◌>>=◌, ◌>>◌, refuse_if, 
 use Rattle.aq_elab.specs.Spots.{span_of, member}
 use Rattle.aq_elab.specs.Angles.{eighths_of}
 use Rattle.aq_elab.specs.Calls.{one_of_table, recipe_named, is_unknown, is_angle_missed, recipe_at, spots_of, recipe_of, all_but_last, last, gate_on, flip_rows, flip_on, swap_on, cswap_on, gates_on, times_of, differs, same_sizes, instance, instances, no_repeat, no_repeats, gates_of_call}
-use Rattle.aq_elab.specs.declared.fault.ElabFault.{ElabFault}
 use Rattle.aq_elab.specs.declared.fault.ElabFault.TheVariants as faults
 use Rattle.aq_elab.specs.declared.recipe.Recipe.{Recipe}
 use Rattle.aq_elab.specs.declared.recipe.Recipe.TheVariants as recipes
 use Rattle.aq_elab.specs.declared.scope.Span.{Span}
 use Rattle.aq_elab.specs.declared.scope.Role.TheVariants as roles
-use Rattle.aq_elab.proofs.ValidLists.{follows, ahead, unless, passes, given, Each, each, All-tabulate, All-flat_map, holds-last, holds-all_but_last, IsDistinct-all_but_last, others-differ, both_hold, holds_more}
-use Rattle.aq_elab.proofs.ValidKnown.{IsSound, IsWithin, counted_as, span_of-within, Reaches, member-below}
+use Rattle.aq_elab.proofs.ValidLists.{follows, ahead, unless, given, Each, each, All-tabulate, All-flat_map, holds-last, holds-all_but_last, IsDistinct-all_but_last, others-differ, both_hold, holds_more}
+use Rattle.aq_elab.proofs.ValidKnown.{IsSound, IsWithin, span_of-within, Reaches, member-below}
 
 -- ---- recipes
 
@@ -220,7 +218,7 @@ gates-valid : (n : ℕ) (recipe : Recipe) (spots : List Spot) (spans : List Span
     → All (IsValidGate n) (flat_map (gates_on recipe) (instances spans))
 gates-valid n recipe spots spans is each_of same distinct =
     let many : AllByRecursion (λ qs. spots_of recipe ≡ length qs) (instances spans) =
-        holds_more (λ qs. length spans ≡ length qs) (λ qs. spots_of recipe ≡ length qs) (λ qs e. sym is.spots ∙ each_of.as_many ∙ e) (instances spans) (instances-length spans) in
+    holds_more (λ qs. length spans ≡ length qs) (λ qs. spots_of recipe ≡ length qs) (λ qs e. sym is.spots ∙ each_of.as_many ∙ e) (instances spans) (instances-length spans) in
     All-flat_map (IsValidGate n) (gates_on recipe) (instances spans)
     (holds_more (IsInstance n recipe) (λ qs. All (IsValidGate n) (gates_on recipe qs)) (gates_on-valid n recipe is.bounded) (instances spans)
     (instances-are n recipe (instances spans) (instances-below n spans each_of.all same) distinct many))
@@ -236,7 +234,7 @@ played-valid n recipe spots spans is each_of =
     let lists = instances spans in
     let gates = flat_map (gates_on recipe) lists in
     let lengths : AllByRecursion (λ qs. length spots ≡ length qs) lists =
-        holds_more (λ qs. length spans ≡ length qs) (λ qs. length spots ≡ length qs) (λ qs e. each_of.as_many ∙ e) lists (instances-length spans) in
+    holds_more (λ qs. length spans ≡ length qs) (λ qs. length spots ≡ length qs) (λ qs e. each_of.as_many ∙ e) lists (instances-length spans) in
     ahead (AllByRecursion (λ (s : Span). differs (times_of spans) s.size ≡ false) spans) (All (IsValidGate n)) (same_sizes (times_of spans) spots spans) (no_repeats spots lists >> Ok gates)
     (same_sizes-same (times_of spans) spots spans each_of.as_many) (λ same.
     ahead (AllByRecursion (IsDistinct nat_eq) lists) (All (IsValidGate n)) (no_repeats spots lists) (Ok gates) (no_repeats-distinct spots lists lengths) (λ distinct.

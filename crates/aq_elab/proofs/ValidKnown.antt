@@ -1,11 +1,11 @@
 -- What is known stays sound: the numbers of qubits and bits are within the limits, and each register within the numbers.
-use Rattle.std.proofs.Common.{◌≡◌, ℕ, zero, suc, ◌+◌, ◌<◌, ◌≤◌, Bool, true, false, cond, eqb, ltb, List, [], ◌∷◌, ◌++◌, map, length, Option, Some, None, IfSome, Result, Ok, Err, IfOk, refl, sym, ap, subst, ◌∙◌, arith}
-use Rattle.std.specs.Prelude.{nat_lt, ◌==◌, ◌||◌, if◌then◌else◌}
+use Rattle.std.proofs.Common.{◌≡◌, ℕ, zero, suc, ◌+◌, ◌<◌, ◌≤◌, Bool, true, false, List, [], ◌∷◌, ◌++◌, map, Option, Some, None, IfSome, Ok, Err, IfOk, refl, sym, ap, subst, ◌∙◌, arith}
+use Rattle.std.specs.Prelude.{nat_lt, ◌||◌, if◌then◌else◌}
 use Rattle.std.specs.Option.{is_some}
-use Rattle.std.specs.List.{AllByRecursion, IsDistinct, list_any, cons_option}
+use Rattle.std.specs.List.{IsDistinct, list_any, cons_option}
 use Rattle.std.specs.Str.{bytes_eq}
 use Rattle.std.proofs.lemmas.List.{map-append, append-nil}
-use Rattle.std.proofs.lemmas.Bool.{ltb-true, ltb-false, eqb-false}
+use Rattle.std.proofs.lemmas.Bool.{ltb-true, ltb-false}
 use Rattle.std.proofs.lemmas.List.Elements.{filter_map-append}
 use Rattle.std.proofs.lemmas.Cmp.{nat_list_eq_equiv}
 use Rattle.std.proofs.lemmas.Map.Keys.{IsDistinct-push}
@@ -13,7 +13,7 @@ use Rattle.aq_parse.specs.declared.tree.Word.{Word}
 use Rattle.aq_parse.specs.declared.tree.Spot.{Spot}
 use Rattle.aq_prog.specs.Programs.{most_qubits, most_bits, AreInRow}
 use Rattle.aq_prog.specs.declared.program.BitRegister.{BitRegister}
-use Rattle.aq_elab.specs.Known.{Known, nothing_known, declared_as, Checked, ◌>>=◌, ◌>>◌, refuse_if}
+use Rattle.aq_elab.specs.Known.{Known, nothing_known, declared_as, ◌>>◌, refuse_if}
 use Rattle.aq_elab.specs.Spots.{is_role, width_of, width, offset, member, part_at, part_of, part_as, span_of}
 use Rattle.aq_elab.specs.Statements.{is_none_of, registered, declaring}
 use Rattle.aq_elab.specs.Elaborated.{register_of, registers_of}
@@ -172,7 +172,7 @@ unfolding grown_qubits
 qubits-sound known name size sound fits =
     let d : Declared = record { role = roles.Qubit; span = record { first = known.qubits; size = size } } in
     let more : registers_of (known.names ++ (name.text, d) ∷ []) ≡ registers_of known.names =
-        filter_map-append (λ entry. register_of entry.0 entry.1 entry.1.role) known.names ((name.text, d) ∷ []) ∙ append-nil (registers_of known.names) in
+    filter_map-append (λ entry. register_of entry.0 entry.1 entry.1.role) known.names ((name.text, d) ∷ []) ∙ append-nil (registers_of known.names) in
     record {
       qubits = fits;
       bits = sound.bits;
@@ -189,7 +189,7 @@ bits-sound known name size sound some new fits =
     let d : Declared = record { role = roles.Bit; span = record { first = known.bits; size = size } } in
     let r : BitRegister = record { name = name.text; first = known.bits; size = width_of size; indexed = is_some size } in
     let more : registers_of (known.names ++ (name.text, d) ∷ []) ≡ registers_of known.names ++ r ∷ [] =
-        filter_map-append (λ entry. register_of entry.0 entry.1 entry.1.role) known.names ((name.text, d) ∷ []) in
+    filter_map-append (λ entry. register_of entry.0 entry.1 entry.1.role) known.names ((name.text, d) ∷ []) in
     record {
       qubits = sound.qubits;
       bits = fits;

@@ -1,5 +1,5 @@
 -- What a tree means is a valid program, and has no assumption.
-use Rattle.std.proofs.Common.{◌≡◌, ℕ, List, length, Result, Ok, Err, IfOk}
+use Rattle.std.proofs.Common.{◌≡◌, length, Ok, Err, IfOk}
 use Rattle.std.specs.Prelude.{◌==◌, false}
 use Rattle.std.specs.List.{All}
 use Rattle.std.proofs.lemmas.Result.{IfOk-at_ok}

@@ -1,5 +1,5 @@
 -- Statements by their levels: what is valid on some qubits, bits and claims stays so on more.
-use Rattle.std.proofs.Common.{◌≡◌, ◌≢◌, ℕ, ◌<◌, ◌≤◌, List, length, Option, Some, None, IfSome, refl, ap, ap₂, arith}
+use Rattle.std.proofs.Common.{◌≢◌, ℕ, ◌<◌, ◌≤◌, List, length, Option, Some, None, IfSome, refl, ap, ap₂, arith}
 use Rattle.std.specs.List.{All}
 use Rattle.std.proofs.lemmas.List.Elements.{All-weaker}
 use Rattle.aq_prog.specs.Gates.{IsValidGate}
@@ -11,7 +11,7 @@ use Rattle.aq_prog.specs.declared.stmt.Stmt.TheVariants as stmt
 use Rattle.aq_prog.specs.declared.stmt.Stmt.TheOpen.{Stmt-F}
 use Rattle.aq_prog.specs.declared.stmt.Stmt.TheViews.{roll-Stmt}
 use Rattle.aq_elab.specs.Known.{Known}
-use Rattle.aq_elab.proofs.ValidLists.{Paired, paired_with}
+use Rattle.aq_elab.proofs.ValidLists.{paired_with}
 use denote.Hole.Carrier.{roll}
 
 -- no fewer qubits, bits and claims

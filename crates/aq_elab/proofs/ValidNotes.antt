@@ -1,5 +1,5 @@
 -- The asserts and the invariant of a statement name claims that are known.
-use Rattle.std.proofs.Common.{◌≡◌, ℕ, suc, ◌+◌, ◌<◌, ◌≤◌, Bool, true, false, cond, List, [], ◌∷◌, ◌++◌, length, Option, Some, None, IfSome, Result, Ok, Err, IfOk, refl, sym, ap, subst, ◌∙◌, arith}
+use Rattle.std.proofs.Common.{◌≡◌, ℕ, ◌<◌, ◌≤◌, Bool, true, false, List, [], ◌∷◌, ◌++◌, length, Option, Some, None, IfSome, Ok, IfOk, refl, arith}
 use Rattle.std.specs.Prelude.{not, codes, if◌then◌else◌}
 use Rattle.std.specs.List.{All, list_any, position_or_len}
 use Rattle.std.specs.Str.{bytes_eq}
@@ -10,7 +10,7 @@ use Rattle.aq_parse.specs.declared.tree.Note.{Note}
 use Rattle.aq_prog.specs.declared.stmt.Stmt.{Stmt, every-Stmt}
 use Rattle.aq_prog.specs.declared.stmt.Stmt.TheVariants as stmt
 use Rattle.aq_prog.specs.declared.stmt.Stmt.TheOpen.{Stmt-F}
-use Rattle.aq_elab.specs.Known.{Checked, ◌>>=◌, ◌>>◌, refuse_if}
+use Rattle.aq_elab.specs.Known.{◌>>◌, refuse_if}
 use Rattle.aq_elab.specs.Annotations.{is_name, claim_number, with_claim, Annotations, asserted, kept, is_stray, note_taken, notes_taken, annotations}
 use Rattle.aq_elab.specs.declared.fault.ElabFault.TheVariants as faults
 use Rattle.aq_elab.proofs.ValidLists.{follows, unless, at_test, place-below}

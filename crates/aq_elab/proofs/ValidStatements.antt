@@ -1,5 +1,5 @@
 -- The statements that one statement adds are valid for what is known behind it.
-use Rattle.std.proofs.Common.{◌≡◌, ℕ, zero, suc, ◌+◌, ◌<◌, ◌≤◌, Bool, true, false, List, [], ◌∷◌, ◌++◌, map, length, Option, Some, None, IfSome, Result, Ok, Err, IfOk, refl, sym, ap, subst, ◌∙◌, arith}
+use Rattle.std.proofs.Common.{ℕ, ◌+◌, ◌<◌, Bool, true, false, List, [], ◌∷◌, ◌++◌, map, length, Option, Some, None, IfSome, Ok, Err, IfOk, arith}
 use Rattle.std.specs.Prelude.{not, ◌==◌, ◌&&◌, nat_lt}
 use Rattle.std.specs.List.{All, AllByRecursion}
 use Rattle.std.proofs.lemmas.Bool.{eqb-true, not-false}
@@ -13,20 +13,19 @@ use Rattle.aq_parse.specs.declared.tree.Test.{Test}
 use Rattle.aq_parse.specs.declared.tree.Node.TheOpen.{Item-F}
 use Rattle.aq_prog.specs.Digits.{tabulate}
 use Rattle.aq_prog.specs.Gates.{IsValidGate}
-use Rattle.aq_prog.specs.declared.gate.Gate.{Gate}
 use Rattle.aq_prog.specs.declared.stmt.Guard.{Guard}
 use Rattle.aq_prog.specs.declared.stmt.Stmt.{Stmt, every-Stmt}
 use Rattle.aq_prog.specs.declared.stmt.Stmt.TheVariants as stmt
 use Rattle.aq_prog.specs.declared.stmt.Stmt.TheOpen.{Stmt-F}
 use Rattle.aq_elab.specs.Known.{Known, Checked, ◌>>=◌, ◌>>◌, refuse_if, or_refuse, all_checked}
-use Rattle.aq_elab.specs.Spots.{span_of, width, width_of, member}
+use Rattle.aq_elab.specs.Spots.{span_of, width, member}
 use Rattle.aq_elab.specs.Calls.{gates_of_call}
 use Rattle.aq_elab.specs.Annotations.{Annotations, annotations}
 use Rattle.aq_elab.specs.Statements.{most_statements, Step, step, declaring, paired, unpaired, measured, measured_into, resets, guard_of, counted, NodeMeaning, Meaning, in_order, flat, plain, declaration, branching, looping, bits_declared, with_claims, item_step}
 use Rattle.aq_elab.specs.declared.fault.ElabFault.TheVariants as faults
 use Rattle.aq_elab.specs.declared.scope.Span.{Span}
 use Rattle.aq_elab.specs.declared.scope.Role.TheVariants as roles
-use Rattle.aq_elab.proofs.ValidLists.{follows, ahead, unless, given, All-tabulate}
+use Rattle.aq_elab.proofs.ValidLists.{follows, unless, given, All-tabulate}
 use Rattle.aq_elab.proofs.ValidLevels.{IsGrown, not_less, grown_twice, Allows, Allows-before, every-gate, every-measure, every-reset, every-if, every-while}
 use Rattle.aq_elab.proofs.ValidKnown.{IsSound, IsWithin, span_of-within, reaches, member-below, IsDeclared, declaring-sound}
 use Rattle.aq_elab.proofs.ValidCalls.{gates_of_call-valid}

@@ -1,10 +1,10 @@
 -- The statements of a tree are valid for what is known behind them, by induction over the tree.
-use Rattle.std.proofs.Common.{◌≡◌, ℕ, List, [], ◌∷◌, map, Option, Some, None, Result, Ok, Err, IfOk, Bool, refl, sym, subst}
+use Rattle.std.proofs.Common.{List, [], ◌∷◌, map, Ok, IfOk, Bool, sym, subst}
 use Rattle.std.specs.List.{AllByRecursion}
 use Rattle.aq_parse.specs.declared.tree.Item.{Item}
 use Rattle.aq_parse.specs.declared.tree.Node.{Node}
 use Rattle.aq_parse.specs.declared.tree.Node.TheOpen.{Node-F, Item-F}
-use Rattle.aq_parse.specs.declared.tree.Node.TheFolds.{map-Node, map-Item, fold-Node, fold-Item, fold-roll-Node, fold-roll-Item, ind-Item}
+use Rattle.aq_parse.specs.declared.tree.Node.TheFolds.{map-Node, map-Item, fold-Node, fold-roll-Node, fold-roll-Item, ind-Item}
 use Rattle.aq_parse.specs.declared.tree.Node.TheViews.{roll-Node, roll-Item}
 use Rattle.aq_prog.specs.declared.stmt.Stmt.{Stmt}
 use Rattle.aq_prog.specs.declared.stmt.Stmt.TheVariants as stmt
@@ -12,7 +12,7 @@ use Rattle.aq_prog.specs.declared.stmt.Stmt.TheOpen.{Stmt-F}
 use Rattle.aq_elab.specs.Known.{Known, ◌>>=◌, all_checked}
 use Rattle.aq_elab.specs.Spots.{span_of}
 use Rattle.aq_elab.specs.Calls.{gates_of_call}
-use Rattle.aq_elab.specs.Statements.{step, declaring, measured, resets, NodeMeaning, Meaning, in_order, bits_declared, node_step, item_step, meaning, statements_of}
+use Rattle.aq_elab.specs.Statements.{step, declaring, measured, resets, NodeMeaning, Meaning, bits_declared, node_step, item_step, meaning, statements_of}
 use Rattle.aq_elab.specs.declared.scope.Role.TheVariants as roles
 use Rattle.aq_elab.proofs.ValidKnown.{IsSound}
 use Rattle.aq_elab.proofs.ValidStatements.{IsFine, IsGoodNode, IsGood, plain-good, declaration-good, include-fine, qubits-fine, bits-fine, measured-fine, resets-fine, barrier-fine, call-fine, branching-good, looping-good, in_order-good, item_step-good}
@@ -57,10 +57,10 @@ module _ (Q : Stmt-F Stmt → Type 0) where
   meaning-good =
       ind-Item (λ (d : Node). IsGoodNode Q (node_meaning d)) (λ (d : Item). IsGood Q (meaning d))
       (λ x y is. subst (λ (z : Node-F Node Item). IsGoodNode Q (node_meaning (roll-Node z))) is
-          (subst (IsGoodNode Q) (sym (fold-roll-Node NodeMeaning Meaning node_step item_step (nodes_of y))) (node-good y)))
+      (subst (IsGoodNode Q) (sym (fold-roll-Node NodeMeaning Meaning node_step item_step (nodes_of y))) (node-good y)))
       (λ x y is. subst (λ (z : Item-F Node Item). IsGood Q (meaning (roll-Item z))) is
-          (subst (IsGood Q) (sym (fold-roll-Item NodeMeaning Meaning node_step item_step (map-Item GoodNode GoodItem Node Item (λ (e : GoodNode). e.0) (λ (e : GoodItem). e.0) y)))
-          (item_step-good Q (record { notes = y.notes; at = y.at; node = node_meaning y.node.0 }) y.node.1)))
+      (subst (IsGood Q) (sym (fold-roll-Item NodeMeaning Meaning node_step item_step (map-Item GoodNode GoodItem Node Item (λ (e : GoodNode). e.0) (λ (e : GoodItem). e.0) y)))
+      (item_step-good Q (record { notes = y.notes; at = y.at; node = node_meaning y.node.0 }) y.node.1)))
 
   items-good : (items : List Item) → AllByRecursion (IsGood Q) (map meaning items)
   items-good [] = tt

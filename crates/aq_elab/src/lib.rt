@@ -4,8 +4,10 @@
 mod calls;
 mod elaborator;
 mod fault;
+mod laws;
 mod recipe;
 mod scope;
 
 pub use elaborator::elaborate;
 pub use fault::ElabFault;
+pub use laws::elaborations;
