@@ -143,7 +143,7 @@ row_behind : (first end : ℕ) (rs : List BitRegister) (r : BitRegister) → Are
 row_behind first end [] r row is some = (is ∙ sym row, some, ap (λ k. k + r.size) row)
 row_behind first end (s ∷ rs) r row is some = (row.0, row.1, row_behind (first + s.size) end rs r row.2 is some)
 
-pub grown_qubits : (known : Known) (name : Word) (size : Option ℕ) → Known
+grown_qubits : (known : Known) (name : Word) (size : Option ℕ) → Known
 grown_qubits known name size = record {
   names = known.names ++ (name.text, record { role = roles.Qubit; span = record { first = known.qubits; size = size } }) ∷ [];
   claims = known.claims;
@@ -152,7 +152,7 @@ grown_qubits known name size = record {
   statements = known.statements;
 }
 
-pub grown_bits : (known : Known) (name : Word) (size : Option ℕ) → Known
+grown_bits : (known : Known) (name : Word) (size : Option ℕ) → Known
 grown_bits known name size = record {
   names = known.names ++ (name.text, record { role = roles.Bit; span = record { first = known.bits; size = size } }) ∷ [];
   claims = known.claims;

@@ -1,5 +1,5 @@
 -- What a tree means is a valid program, and has no assumption.
-use Rattle.std.proofs.Common.{◌≡◌, length, Ok, Err, IfOk}
+use Rattle.std.proofs.Common.{◌≡◌, length, Result, Ok, Err, IfOk}
 use Rattle.std.specs.Prelude.{◌==◌, false}
 use Rattle.std.specs.List.{All}
 use Rattle.std.proofs.lemmas.Result.{IfOk-at_ok}
@@ -8,9 +8,10 @@ use Rattle.aq_prog.specs.Programs.{IsValidLevel, IsWrittenLevel, IsWritten, IsVa
 use Rattle.aq_prog.specs.declared.program.Program.{Program}
 use Rattle.aq_prog.specs.declared.stmt.Stmt.{Stmt}
 use Rattle.aq_prog.specs.declared.stmt.Stmt.TheOpen.{Stmt-F}
-use Rattle.aq_elab.specs.Known.{Checked, ◌>>=◌, ◌>>◌, refuse_if, nothing_known}
+use Rattle.aq_elab.specs.Known.{Checked, ◌>>=◌, ◌>>◌, refuse_if, nothing_known, Gives}
 use Rattle.aq_elab.specs.Statements.{Step, statements_of}
 use Rattle.aq_elab.specs.Elaborated.{program_of, elaborated}
+use Rattle.aq_elab.specs.declared.fault.ElabFault.{ElabFault}
 use Rattle.aq_elab.specs.declared.fault.ElabFault.TheVariants as faults
 use Rattle.aq_elab.proofs.ValidLists.{unless}
 use Rattle.aq_elab.proofs.ValidKnown.{nothing-sound}
@@ -50,3 +51,13 @@ elaborated-valid tree p e = IfOk-at_ok IsValidProgram e (of_whole IsValidProgram
 
 pub elaborated-written : (tree : Tree) (p : Program) → elaborated tree ≡ Ok p → All IsWritten p.body
 elaborated-written tree p e = IfOk-at_ok (λ (p : Program). All IsWritten p.body) e (of_whole (λ (p : Program). All IsWritten p.body) step-written tree)
+
+-- ---- of what a function gives
+
+pub valid_given : (r : Result Program ElabFault) (tree : Tree) → Gives (λ (p : Program). p) r (elaborated tree) → IfOk r IsValidProgram
+valid_given (Ok p) tree e = elaborated-valid tree p e
+valid_given (Err f) tree h = tt
+
+pub written_given : (r : Result Program ElabFault) (tree : Tree) → Gives (λ (p : Program). p) r (elaborated tree) → IfOk r (λ (p : Program). All IsWritten p.body)
+written_given (Ok p) tree e = elaborated-written tree p e
+written_given (Err f) tree h = tt

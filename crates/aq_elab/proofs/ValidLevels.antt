@@ -28,7 +28,7 @@ grown_twice a b c g h = record { qubits = omega (arith, g.qubits, h.qubits); bit
 
 -- ---- levels
 
-pub gate-grown : (n m : ℕ) (gate : Gate) → n ≤ m → IsValidGate n gate → IsValidGate m gate
+gate-grown : (n m : ℕ) (gate : Gate) → n ≤ m → IsValidGate n gate → IsValidGate m gate
 gate-grown n m gate le g = record {
   entries = g.entries;
   target = omega (arith, g.target);
@@ -43,7 +43,7 @@ below_more n m None le h = tt
 abbrev pub IsValidIn : Known → Stmt-F Stmt → Type 0
 IsValidIn known = IsValidLevel known.qubits known.bits (length known.claims)
 
-pub level-grown : (a b : Known) → IsGrown a b → (x : Stmt-F Stmt) → IsValidIn a x → IsValidIn b x
+level-grown : (a b : Known) → IsGrown a b → (x : Stmt-F Stmt) → IsValidIn a x → IsValidIn b x
 level-grown a b g (Stmt-F.Gate gate) h = gate-grown a.qubits b.qubits gate g.qubits h
 level-grown a b g (Stmt-F.Measure qubit bit) h = (omega (arith, g.qubits, h.0), below_more a.bits b.bits bit g.bits h.1)
 level-grown a b g (Stmt-F.Reset qubit) h = omega (arith, g.qubits, h)

@@ -24,10 +24,6 @@ pub unless : {B : Type 0} (R : B → Type 0) (test : Bool) (fault : ElabFault) (
 unless R true fault next k = tt
 unless R false fault next k = k refl
 
-pub passes : (test : Bool) (fault : ElabFault) → IfOk (refuse_if test fault) (λ u. test ≡ false)
-passes true fault = tt
-passes false fault = refl
-
 pub at_test : {A : Type 0} (P : A → Type 0) (test : Bool) (c d : Checked A) → (test ≡ true → IfOk c P) → (test ≡ false → IfOk d P) → IfOk (if test then c else d) P
 at_test P true c d h k = h refl
 at_test P false c d h k = k refl

@@ -53,7 +53,7 @@ module _ (Q : Stmt-F Stmt → Type 0) where
       let inner : List Meaning = map meaning (map (λ (e : GoodItem). e.0) body) in
       looping-good Q test inner (in_order-good Q inner (body-good body))
 
-  pub meaning-good : (d : Item) → IsGood Q (meaning d)
+  meaning-good : (d : Item) → IsGood Q (meaning d)
   meaning-good =
       ind-Item (λ (d : Node). IsGoodNode Q (node_meaning d)) (λ (d : Item). IsGood Q (meaning d))
       (λ x y is. subst (λ (z : Node-F Node Item). IsGoodNode Q (node_meaning (roll-Node z))) is
