@@ -4,6 +4,7 @@
 mod calls;
 mod elaborator;
 mod fault;
+mod laws;
 mod notes;
 mod recipe;
 mod scope;
@@ -12,3 +13,4 @@ mod statements;
 
 pub use elaborator::elaborate;
 pub use fault::ElabFault;
+pub use laws::elaborations;
