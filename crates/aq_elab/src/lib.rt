@@ -1,6 +1,7 @@
 //! Programs from their syntax trees: names, broadcasting, angles, annotations and limits.
 #![tactic(auto)]
 
+mod angle;
 mod calls;
 mod elaborator;
 mod fault;
