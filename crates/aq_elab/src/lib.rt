@@ -5,6 +5,7 @@ mod angle;
 mod calls;
 mod elaborator;
 mod fault;
+mod gates;
 mod notes;
 mod recipe;
 mod scope;
