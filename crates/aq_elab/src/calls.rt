@@ -1,7 +1,9 @@
 //! Gate calls: the gate by its name and angle, and its instances on registers.
-ghost use Rattle.std.specs.Prelude.{◌≡◌, ◌≤◌, ◌^◌, [], IfSome, MatchOption};
+ghost use Rattle.std.specs.Prelude.{◌≡◌, ◌<◌, ◌≤◌, [], All, IfOk};
 ghost use Rattle.aq_prog.specs.Digits.{tabulate};
+ghost use Rattle.aq_prog.specs.Programs.{most_bits};
 ghost use Rattle.aq_elab.specs.Known.{Gives, all_checked};
+ghost use Rattle.aq_elab.specs.Bounds.{IsShort};
 ghost use Rattle.aq_elab.specs.Spots.{span_of, member};
 ghost use Rattle.aq_elab.specs.Calls.{times_of, differs, same_sizes, instance, no_repeat, played, gates_of_call};
 ghost use Rattle.aq_elab.specs.declared.scope.Role.TheVariants as roles;
@@ -13,23 +15,26 @@ use crate::scope::{Role, Scope, Span};
 use aq_parse::{Angle, Spot, Word};
 use aq_prog::Gate;
 use sqlite_items::Items;
-use std::alloc::Global;
+use std::alloc::{AllocError, Global};
 
 /// The qubits that each spot stands for.
 fn spans_of(alloc: Global, scope: &Scope, spots: &[Spot]) -> Result<Vec<Span>, ElabFault>
-    ensures { Gives (λ spans. spans.items) result (all_checked (span_of scope.now roles.Qubit) spots.now) }
+    ensures spans { Gives (λ spans. spans.items) result (all_checked (span_of scope.now roles.Qubit) spots.now) }
+    ensures short { IfOk result (λ spans. All IsShort spans.items) }
 {
     let mut spans = Vec::new(alloc);
     for spot in spots {
         let span = scope.span_of(Role::Qubit, spot)?;
-        spans.push(span).map_err(|_| ElabFault::Memory)?;
+        spans.push(span).map_err(AllocError::from)?;
     }
     Ok(spans)
 }
 
 /// The number of instances: the size of the first register, and 1 where there is none.
 fn times_of(spans: &[Span]) -> u32
-    ensures { result ≡ times_of spans.now }
+    requires short { All IsShort spans.now }
+    ensures value { result ≡ times_of spans.now }
+    ensures few { result ≤ most_bits }
 {
     for span in spans {
         if let Some(size) = span.size {
@@ -60,25 +65,29 @@ fn check_sizes(times: u32, spots: &[Spot], spans: &[Span]) -> Result<(), ElabFau
     Ok(())
 }
 
-/// The qubit of an instance. None where its number is too large, as no qubit of a program is.
-fn member(span: &Span, index: u32) -> Option<u32>
-    ensures { MatchOption result (2 ^ 32 ≤ member span.now index) (λ qubit. qubit ≡ member span.now index) }
+/// The qubit of an instance.
+fn member(span: &Span, index: u32) -> u32
+    requires short { IsShort span.now }
+    requires few { index < most_bits }
+    ensures { result ≡ member span.now index }
 {
     match span.size {
-        None => Some(span.first),
-        Some(_) => span.first.checked_add(index),
+        None => span.first,
+        Some(_) => span.first + index,
     }
 }
 
-/// The qubits of an instance, spot by spot. None for want of memory, or where a qubit's number is too large.
-fn instance(alloc: Global, spans: &[Span], index: u32) -> Option<Vec<u32>>
-    ensures { IfSome result (λ qubits. qubits.items ≡ instance spans.now index) }
+/// The qubits of an instance, spot by spot. The only error is want of memory.
+fn instance(alloc: Global, spans: &[Span], index: u32) -> Result<Vec<u32>, AllocError>
+    requires short { All IsShort spans.now }
+    requires few { index < most_bits }
+    ensures { IfOk result (λ qubits. qubits.items ≡ instance spans.now index) }
 {
     let mut qubits = Vec::new(alloc);
     for span in spans {
-        qubits.push(member(span, index)?).ok()?;
+        qubits.push(member(span, index))?;
     }
-    Some(qubits)
+    Ok(qubits)
 }
 
 /// Whether each qubit stands once; RepeatedQubit at the first spot whose qubit is one of those before it. A gate has
@@ -105,13 +114,15 @@ fn play(
     spots: &[Spot],
     spans: &[Span],
 ) -> Result<Items<Gate>, ElabFault>
+    requires short { All IsShort spans.now }
+    requires few { times ≤ most_bits }
     ensures { Gives (λ gates. gates) result (played recipe.now spots.now (tabulate times (instance spans.now))) }
 {
     let mut gates = Items::new(alloc);
     for index in 0..times {
-        let qubits = instance(alloc, spans, index).ok_or(ElabFault::Memory)?;
+        let qubits = instance(alloc, spans, index)?;
         check_repeat(spots, &qubits)?;
-        push_gates(alloc, &mut gates, recipe, &qubits).map_err(|_| ElabFault::Memory)?;
+        push_gates(alloc, &mut gates, recipe, &qubits)?;
     }
     Ok(gates)
 }
