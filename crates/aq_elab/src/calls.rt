@@ -127,7 +127,12 @@ fn play(
     Ok(gates)
 }
 
-/// The gates that a call plays, in order.
+/// The gates that a call plays, in order. Errors, the first that applies:
+/// - those of the gate by its name, angle and number of spots.
+/// - UnknownName, IndexOut at a spot: from left to right, what the spot stands for isn't there.
+/// - SizeDiffers at a spot: its register has another size than the first register.
+/// - RepeatedQubit at a spot: its qubit stands before it, in the first instance that has a qubit twice.
+/// - Memory: memory ran out.
 #[tactic(auto, unfolding(crate::specs::Calls::gates_of_call))]
 pub(crate) fn gates_of_call(
     alloc: Global,

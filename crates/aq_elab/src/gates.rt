@@ -55,15 +55,27 @@ fn push_flip(alloc: Global, gates: &mut Items<Gate>, qubits: &[u32]) -> Result<(
     push_gate(alloc, gates, FLIP, qubits)
 }
 
+/// Adds a flip between two others that are alike.
+fn push_between(
+    alloc: Global,
+    gates: &mut Items<Gate>,
+    outer: &[u32],
+    inner: &[u32],
+) -> Result<(), AllocError>
+    ensures { OnOk result (gates.new ≡ gates.old ++ flip_on outer.now ∷ flip_on inner.now ∷ flip_on outer.now ∷ []) }
+{
+    push_flip(alloc, gates, outer)?;
+    push_flip(alloc, gates, inner)?;
+    push_flip(alloc, gates, outer)
+}
+
 fn push_swap(alloc: Global, gates: &mut Items<Gate>, qubits: &[u32]) -> Result<(), AllocError>
     ensures { OnOk result (gates.new ≡ gates.old ++ swap_on qubits.now) }
 {
-    if let [a, b] = qubits {
-        push_flip(alloc, gates, &[*a, *b])?;
-        push_flip(alloc, gates, &[*b, *a])?;
-        push_flip(alloc, gates, &[*a, *b])?;
+    match qubits {
+        [a, b] => push_between(alloc, gates, &[*a, *b], &[*b, *a]),
+        _ => Ok(()),
     }
-    Ok(())
 }
 
 fn push_controlled_swap(
@@ -73,12 +85,10 @@ fn push_controlled_swap(
 ) -> Result<(), AllocError>
     ensures { OnOk result (gates.new ≡ gates.old ++ cswap_on qubits.now) }
 {
-    if let [c, a, b] = qubits {
-        push_flip(alloc, gates, &[*b, *a])?;
-        push_flip(alloc, gates, &[*c, *a, *b])?;
-        push_flip(alloc, gates, &[*b, *a])?;
+    match qubits {
+        [c, a, b] => push_between(alloc, gates, &[*b, *a], &[*c, *a, *b]),
+        _ => Ok(()),
     }
-    Ok(())
 }
 
 /// Adds the gates on these qubits at the end. The last qubit is the target, and those before it are controls. The only

@@ -3,6 +3,8 @@
 
 mod angle;
 mod calls;
+#[cfg(test)]
+mod calls_tests;
 mod elaborator;
 mod fault;
 mod gates;
