@@ -1,9 +1,8 @@
 -- Gate calls: which gates they play, and in which order.
-use Rattle.std.specs.Prelude.{ℕ, suc, ◌+◌, ◌==◌, ℤ, pos, Bool, true, false, not, ◌||◌, List, [], ◌∷◌, ◌++◌, map, length, Option, Some, None, unwrap_or, Ok, Err, codes, if◌then◌else◌}
+use Rattle.std.specs.Prelude.{ℕ, ◌+◌, ◌==◌, ℤ, pos, Bool, false, not, List, [], ◌∷◌, ◌++◌, map, length, Option, Some, None, unwrap_or, Ok, codes, if◌then◌else◌}
 use Rattle.std.specs.List.{list_any, flat_map}
 use Rattle.std.specs.Option.{is_some}
 use Rattle.std.specs.Str.{bytes_eq}
-use Rattle.aq_lex.specs.declared.place.Place.{Place}
 use Rattle.aq_parse.specs.declared.tree.Word.{Word}
 use Rattle.aq_parse.specs.declared.tree.Spot.{Spot}
 use Rattle.aq_parse.specs.declared.tree.Angle.{Angle}
@@ -12,10 +11,8 @@ use Rattle.aq_prog.specs.Table.{rows_named, w, nil}
 use Rattle.aq_prog.specs.declared.gate.Entry.{Entry}
 use Rattle.aq_prog.specs.declared.gate.Gate.{Gate}
 use Rattle.aq_prog.specs.declared.table.Rows.{Rows}
-use Rattle.aq_prog.specs.declared.stmt.Stmt.{Stmt}
-use Rattle.aq_prog.specs.declared.stmt.Stmt.TheVariants as stmt
 use Rattle.aq_elab.specs.Known.{Known, Checked, ◌>>=◌, ◌>>◌, refuse_if, or_refuse, all_checked}
-use Rattle.aq_elab.specs.Spots.{span_of, width, member}
+use Rattle.aq_elab.specs.Spots.{span_of, member}
 use Rattle.aq_elab.specs.Angles.{eighths_of}
 use Rattle.aq_elab.specs.declared.fault.ElabFault.TheVariants as faults
 use Rattle.aq_elab.specs.declared.recipe.Recipe.{Recipe}
@@ -137,11 +134,14 @@ abbrev pub no_repeats : List Spot → List (List ℕ) → Checked (Unit {0})
 no_repeats spots [] = Ok tt
 no_repeats spots (qs ∷ rest) = no_repeat [] spots qs >> no_repeats spots rest
 
--- the gates of a call: each instance whole before the next
+-- the gates of the instances: each instance whole before the next
+abbrev pub played : Recipe → List Spot → List (List ℕ) → Checked (List Gate)
+played recipe spots rows = no_repeats spots rows >> Ok (flat_map (gates_on recipe) rows)
+
+-- the gates of a call
 unfoldable pub gates_of_call : Known → Word → Option Angle → List Spot → Checked (List Gate)
 gates_of_call known name angle spots =
     recipe_of name angle (length spots) >>= λ recipe.
     all_checked (span_of known roles.Qubit) spots >>= λ spans.
     same_sizes (times_of spans) spots spans
-    >> no_repeats spots (instances spans)
-    >> Ok (flat_map (gates_on recipe) (instances spans))
+    >> played recipe spots (instances spans)

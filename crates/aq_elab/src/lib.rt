@@ -1,9 +1,13 @@
 //! Programs from their syntax trees: names, broadcasting, angles, annotations and limits.
 #![tactic(auto)]
 
+mod angle;
 mod calls;
+#[cfg(test)]
+mod calls_tests;
 mod elaborator;
 mod fault;
+mod gates;
 mod laws;
 mod notes;
 mod recipe;
