@@ -1,13 +1,12 @@
 -- Annotations behind statements.
-use Rattle.std.proofs.Common.{◌≡◌, Bool, true, false, List, [], ◌∷◌, ◌++◌, Option, Some, None, Ok, Err, ℕ, not, ◌||◌, refl, sym, ap, ◌∙◌, if◌then◌else◌, codes}
+use Rattle.std.proofs.Common.{◌≡◌, Bool, true, false, List, [], ◌∷◌, ◌++◌, Ok, Err, not, refl, ap, ◌∙◌, if◌then◌else◌, codes}
 use Rattle.std.proofs.lemmas.List.{append_assoc}
-use Rattle.std.specs.Option.{is_some}
 use Rattle.std.specs.Str.{bytes_eq}
 use Rattle.aq_parse.specs.declared.tree.Note.{Note}
 use Rattle.aq_prog.specs.declared.stmt.Stmt.{Stmt}
 use Rattle.aq_prog.specs.declared.stmt.Stmt.TheVariants as stmt
-use Rattle.aq_elab.specs.Known.{Known, Checked, ◌>>=◌, ◌>>◌, refuse_if}
-use Rattle.aq_elab.specs.Annotations.{Annotations, note_taken, notes_taken, annotations, asserted, kept, is_name, is_stray, claim_number}
+use Rattle.aq_elab.specs.Known.{Checked, ◌>>=◌, ◌>>◌, refuse_if}
+use Rattle.aq_elab.specs.Annotations.{Annotations, note_taken, notes_taken, asserted, kept, is_name, is_stray, claim_number}
 use Rattle.aq_elab.specs.declared.fault.ElabFault.{ElabFault}
 use Rattle.aq_elab.specs.declared.fault.ElabFault.TheVariants as faults
 

@@ -1,10 +1,14 @@
 -- Names by a look-up.
-use Rattle.std.proofs.Common.{◌≡◌, ℕ, suc, arith, List, [], ◌∷◌, ◌++◌, Bool, true, false, cond, Option, Some, None, refl, sym, ap, ◌∙◌, if◌then◌else◌}
+use Rattle.std.proofs.Common.{◌+◌, take, slice_get, get_or, unwrap_or, ◌≡◌, ℕ, suc, arith, List, [], ◌∷◌, ◌++◌, Bool, true, false, cond, Option, Some, None, refl, sym, ap, ◌∙◌, if◌then◌else◌}
 use Rattle.std.specs.Prelude.{All, IfSome}
 use Rattle.std.specs.Map.{lookup}
 use Rattle.indexmap.specs.IndexMap.{insert_entry}
 use Rattle.indexmap.proofs.MapLemmas.{insert_entry-absent, absent_from_lookup}
 use Rattle.std.specs.Str.{bytes_eq}
+use Rattle.std.proofs.lemmas.List.{take_more}
+use Rattle.std.proofs.lemmas.List.Elements.{filter_map-append}
+use Rattle.std.proofs.lemmas.Option.{slice_get_within, unwrap_or-slice_get}
+use Rattle.aq_elab.specs.Elaborated.{registers_of, register_of}
 use Rattle.aq_elab.specs.Known.{Known, declared_as}
 use Rattle.aq_elab.specs.Bounds.{IsShort, with_name}
 use Rattle.aq_elab.specs.declared.scope.Declared.{Declared}
@@ -33,3 +37,10 @@ known_of names claims qubits bits statements = record { names = names; claims = 
 -- names that are those before and a new one
 pub name_added : (known : Known) (names : List (List ℕ × Declared)) (name : List ℕ) (d : Declared) (qubits bits : ℕ) → names ≡ known.names ++ (name, d) ∷ [] → known_of names known.claims qubits bits known.statements ≡ with_name known name d qubits bits
 name_added known names name d qubits bits e = ap (λ (all : List (List ℕ × Declared)). known_of all known.claims qubits bits known.statements) e
+
+-- the registers of one name more
+pub registers_more : (names : List (List ℕ × Declared)) (i : ℕ) (entry : List ℕ × Declared) → slice_get names i ≡ Some entry → registers_of (take i names) ++ registers_of (entry ∷ []) ≡ registers_of (take (i + 1) names)
+registers_more names i entry e =
+    let lt = slice_get_within names i entry e in
+    let g : get_or names i entry ≡ entry = sym (unwrap_or-slice_get names i entry) ∙ ap (λ o. unwrap_or o entry) e in
+    sym (ap registers_of (take_more names i entry lt ∙ ap (λ (x : List ℕ × Declared). take i names ++ x ∷ []) g) ∙ filter_map-append (λ (entry : List ℕ × Declared). register_of entry.0 entry.1 entry.1.role) (take i names) (entry ∷ []))

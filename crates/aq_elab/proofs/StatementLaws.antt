@@ -1,5 +1,5 @@
 -- Statements behind their annotations.
-use Rattle.std.proofs.Common.{◌≡◌, Bool, true, false, ◌&&◌, List, [], ◌∷◌, ◌++◌, Option, Some, None, Ok, Err, ℕ, ◌-◌, ◌+◌, ◌≤◌, length, refl, sym, ap, ap₂, ◌∙◌, arith}
+use Rattle.std.proofs.Common.{◌≡◌, Bool, true, false, ◌&&◌, List, [], ◌++◌, None, Ok, Err, ℕ, ◌-◌, ◌≤◌, length, refl, sym, ap, ap₂, ◌∙◌, arith}
 use Rattle.std.proofs.lemmas.List.{append_assoc, append-nil, length-append}
 use Rattle.aq_lex.specs.declared.place.Place.{Place}
 use Rattle.aq_parse.specs.declared.tree.Note.{Note}
@@ -13,7 +13,7 @@ use Rattle.aq_elab.specs.Nodes.{meaning_of}
 use Rattle.aq_elab.specs.Statements.{Step, step, NodeMeaning, Meaning, meaning, node_step, item_step, with_claims}
 use Rattle.aq_elab.specs.declared.fault.ElabFault.{ElabFault}
 use Rattle.aq_elab.specs.declared.fault.ElabFault.TheVariants as faults
-use Rattle.aq_elab.proofs.NoteLaws.{front, fronted, notes_taken-front}
+use Rattle.aq_elab.proofs.NoteLaws.{fronted, notes_taken-front}
 
 -- what follows the annotations of a statement
 abbrev pub rest_said : NodeMeaning → Place → Bool → Known → Annotations → Checked Step

@@ -1,5 +1,5 @@
 -- Statements that are put behind those of a list.
-use Rattle.std.specs.Prelude.{ℕ, ◌+◌, Bool, List, [], ◌++◌, map, Option, Some, None, Ok, Err}
+use Rattle.std.specs.Prelude.{ℕ, ◌+◌, Bool, List, [], ◌++◌, map, Option, Ok, Err}
 use Rattle.aq_parse.specs.declared.tree.Note.{Note}
 use Rattle.aq_parse.specs.declared.tree.Angle.{Angle}
 use Rattle.aq_parse.specs.declared.tree.Spot.{Spot}

@@ -1,11 +1,11 @@
 -- The program of a syntax tree.
-use Rattle.std.specs.Prelude.{◌≡◌, ℕ, ◌==◌, Bool, true, false, List, [], ◌∷◌, Option, Some, None, Ok, Err}
+use Rattle.std.specs.Prelude.{ℕ, ◌==◌, false, List, Option, Some, None, Ok}
 use Rattle.std.specs.List.{filter_map}
 use Rattle.std.specs.Option.{is_some}
 use Rattle.aq_parse.specs.declared.tree.Tree.{Tree}
 use Rattle.aq_prog.specs.declared.program.Program.{Program}
 use Rattle.aq_prog.specs.declared.program.BitRegister.{BitRegister}
-use Rattle.aq_elab.specs.Known.{Known, Checked, ◌>>=◌, ◌>>◌, refuse_if, nothing_known}
+use Rattle.aq_elab.specs.Known.{Checked, ◌>>=◌, ◌>>◌, refuse_if, nothing_known}
 use Rattle.aq_elab.specs.Spots.{width}
 use Rattle.aq_elab.specs.Statements.{Step, statements_of}
 use Rattle.aq_elab.specs.declared.fault.ElabFault.TheVariants as faults

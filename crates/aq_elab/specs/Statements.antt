@@ -1,7 +1,7 @@
 -- What statements mean, in the order of the text: declarations add names, the others add statements to the program. The
 -- first fault comes in the order of the rules: annotations, then a declaration inside a body, then the statement's own
 -- checks, then the number of statements, then the statements inside.
-use Rattle.std.specs.Prelude.{ℕ, ◌+◌, ◌==◌, Bool, true, false, not, ◌&&◌, List, [], ◌∷◌, ◌++◌, map, length, Option, Some, None, Ok, Err, nat_lt}
+use Rattle.std.specs.Prelude.{ℕ, ◌+◌, ◌==◌, Bool, true, false, not, ◌&&◌, List, [], ◌∷◌, ◌++◌, map, length, Option, Some, None, Ok, nat_lt}
 use Rattle.std.specs.Option.{is_some}
 use Rattle.aq_lex.specs.declared.place.Place.{Place}
 use Rattle.aq_parse.specs.declared.tree.Word.{Word}
@@ -18,7 +18,7 @@ use Rattle.aq_prog.specs.declared.stmt.Stmt.TheVariants as stmt
 use Rattle.aq_elab.specs.Known.{Known, Checked, ◌>>=◌, ◌>>◌, refuse_if, or_refuse, all_checked, declared_as}
 use Rattle.aq_elab.specs.Spots.{span_of, width, width_of, member}
 use Rattle.aq_elab.specs.Calls.{gates_of_call}
-use Rattle.aq_elab.specs.Annotations.{Annotations, annotations}
+use Rattle.aq_elab.specs.Annotations.{annotations}
 use Rattle.aq_elab.specs.declared.fault.ElabFault.TheVariants as faults
 use Rattle.aq_elab.specs.declared.scope.Span.{Span}
 use Rattle.aq_elab.specs.declared.scope.Role.{Role}

@@ -1,17 +1,20 @@
 //! What the statements before a place have made known.
-ghost use Rattle.std.specs.Prelude.{◌≡◌, ◌+◌, ◌<◌, ◌≤◌, None, IfSome, IfOk, OnOk, IfErr};
+ghost use Rattle.std.specs.Prelude.{◌≡◌, ◌==◌, ◌+◌, ◌++◌, ◌∷◌, [], ◌<◌, ◌≤◌, None, IfSome, IfOk, OnOk, IfErr};
+ghost use Rattle.aq_elab.specs.Elaborated.{registers_of, program_of};
 ghost use Rattle.aq_elab.specs.Known.{Gives, nothing_known, declared_as};
 ghost use Rattle.aq_elab.specs.Annotations.{claim_number, with_claim};
 ghost use Rattle.aq_elab.specs.Bounds.{IsShort, with_name, next_span};
 ghost use Rattle.aq_prog.specs.Programs.{most_qubits, most_bits};
 ghost use Rattle.aq_elab.specs.Spots.{span_of, part_of, is_role, width, width_of, member};
-ghost use Rattle.aq_elab.specs.Statements.{declaring, is_none_of, registered, counted, with_claims};
+ghost use Rattle.aq_elab.specs.Statements.{step, declaring, is_none_of, registered, counted, with_claims};
 ghost use Rattle.aq_elab.specs.declared.fault.ElabFault.TheVariants as faults;
 
 use crate::fault::ElabFault;
 use aq_lex::{Place, Text};
 use aq_parse::{Spot, Word};
+use aq_prog::{BitRegister, Program, Stmt};
 use indexmap::{IndexMap, IndexSet};
+use sqlite_items::Items;
 use std::alloc::Global;
 use std::marker::Model;
 
@@ -278,4 +281,74 @@ impl Scope {
         };
         Ok(number)
     }
+
+    /// Whether no qubit is declared.
+    pub(crate) fn has_no_qubits(&self) -> bool
+        ensures { result ≡ (self.now.qubits == 0) }
+    {
+        self.qubits == 0
+    }
+
+    /// The bit registers, in the order of their declaration.
+    fn registers(&self, alloc: Global) -> Result<Items<BitRegister>, ElabFault>
+        ensures registers { IfOk result (λ rs. rs ≡ registers_of self.now.names) }
+        ensures memory { IfErr result (λ e. e ≡ faults.Memory) }
+    {
+        let mut registers = Items::new(alloc);
+        for i in 0..self.names.len() {
+            if let Some((name, declared)) = self.names.get_index(i) {
+                push_register(alloc, name, *declared, &mut registers)?;
+            }
+        }
+        Ok(registers)
+    }
+
+    /// The program with these statements. The only fault is want of memory.
+    pub(crate) fn program(&self, alloc: Global, body: Items<Stmt>) -> Result<Program, ElabFault>
+        ensures program { IfOk result (λ p. p ≡ program_of (step self.now body)) }
+        ensures memory { IfErr result (λ e. e ≡ faults.Memory) }
+    {
+        let registers = self.registers(alloc)?;
+        let claims = copy_texts(alloc, self.claims.as_slice())?;
+        Ok(Program {
+            qubits: self.qubits,
+            bits: self.bits,
+            registers,
+            claims,
+            body,
+        })
+    }
+}
+
+/// Adds the register of a name, where it stands for bits.
+fn push_register(
+    alloc: Global,
+    name: &Text,
+    declared: Declared,
+    registers: &mut Items<BitRegister>,
+) -> Result<(), ElabFault>
+    ensures pushed { OnOk result (registers.new ≡ registers.old ++ registers_of ((name.now, declared) ∷ [])) }
+    ensures memory { IfErr result (λ e. e ≡ faults.Memory) }
+{
+    if declared.role.is(Role::Qubit) {
+        return Ok(());
+    }
+    registers.push(BitRegister {
+        name: Text::from_slice(alloc, name.as_slice())?,
+        first: declared.span.first,
+        size: declared.span.width(),
+        indexed: declared.span.size.is_some(),
+    })?;
+    Ok(())
+}
+
+fn copy_texts(alloc: Global, texts: &[Text]) -> Result<Items<Text>, ElabFault>
+    ensures copied { IfOk result (λ all. all ≡ texts.now) }
+    ensures memory { IfErr result (λ e. e ≡ faults.Memory) }
+{
+    let mut copies = Items::new(alloc);
+    for text in texts {
+        copies.push(Text::from_slice(alloc, text.as_slice())?)?;
+    }
+    Ok(copies)
 }
