@@ -9,3 +9,4 @@ pub mod ValidNotes
 pub mod ValidStatements
 pub mod ValidTrees
 pub mod ValidLaws
+pub mod TextsLaws

@@ -1,11 +1,12 @@
 -- Programs that only have gates.
-use Rattle.std.proofs.Common.{◌≡◌, ℕ, zero, suc, ◌<◌, Bool, true, false, not, List, [], ◌∷◌, ◌++◌, map, filter, All, Any, Contains, length, slice_index_or, refl, ap, sym, ◌∙◌, subst, arith, inl, inr, append-nil}
-use Rattle.std.specs.List.{list_all, flat_map}
+use Rattle.std.proofs.Common.{◌≡◌, ℕ, zero, suc, ◌<◌, Bool, true, false, not, List, [], ◌∷◌, ◌++◌, map, filter, All, Any, Contains, length, replicate, slice_index_or, Some, refl, ap, sym, ◌∙◌, subst, arith, inl, inr, append-nil, ap₂}
+use Rattle.std.specs.List.{list_all, list_any, flat_map}
 use Rattle.aq_ring.specs.Fractions.{Amplitude}
 use Rattle.aq_ring.specs.Amplitudes.{FitsAmplitudeProduct}
 use Rattle.aq_ring.specs.Vectors.{IsZeroVector, Proportional, is_zero_vector}
 use Rattle.aq_ring.proofs.ProportionalLaws.{proportional-equivalence, proportional-keeps}
 use Rattle.aq_ring.proofs.VectorLaws.{is_zero_vector_true}
+use Rattle.aq_prog.specs.Digits.{tabulate}
 use Rattle.aq_prog.specs.Gates.{apply_gate, apply_gates, FitsGate}
 use Rattle.aq_prog.specs.Laws.{run_of_gates}
 use Rattle.aq_prog.specs.Runs.{State, Run, How, Played, played_gates}
@@ -20,8 +21,8 @@ use Rattle.aq_prog.proofs.VectorLaws.{apply_gate-proportional}
 use Rattle.aq_obligations.specs.Claims.{ClaimCase, CaseHolds, Holds}
 use Rattle.aq_obligations.specs.Obligations.{Obligation, IsListed, IsStart, run_of, IsWhole, IsTrueOf, IsCounterexample}
 use Rattle.aq_obligations.specs.Wide.{IsWide}
-use Rattle.aq_obligations.specs.Worlds.{World, Spread, in_worlds, with_vectors, spread, spread_step, worlds, is_nought, IsKept, IsRefutation, split, mentioned}
-use Rattle.aq_obligations.specs.Correct.{run_from, PassedHolds, IsCorrect}
+use Rattle.aq_obligations.specs.Worlds.{World, Partial, Spread, in_worlds, with_vectors, spread, spread_step, worlds, is_nought, IsKept, IsRefutation, split, mentioned, mentions, filled}
+use Rattle.aq_obligations.specs.Correct.{run_from, PassedHolds, IsCorrect, zeros}
 use Rattle.aq_obligations.specs.GatesAlone.{one_case, gates_program, gates_obligation, gates_shown, GatesAloneLaws}
 
 -- one vector is listed alone
@@ -45,76 +46,110 @@ one_any {A = A} P x a = at_one a.0 a.1 a.2 a.3 a.4
     at_one zero y h e p = subst P (sym e) p
     at_one (suc k) y h e p = absurd (omega (arith, h))
 
-holds_one : (v w : List Amplitude) → Proportional w v → Holds (one_case v) [] w
-holds_one v w p = any_one (λ c. CaseHolds [] w c) (record { vectors = v ∷ []; when = [] }) (refl, any_one (λ u. Proportional w u) v p)
+holds_one : (v w : List Amplitude) (bits : List Bool) → Proportional w v → Holds (one_case v) bits w
+holds_one v w bits p = any_one (λ c. CaseHolds bits w c) (record { vectors = v ∷ []; when = [] }) (refl, any_one (λ u. Proportional w u) v p)
 
 one_holds : (v w : List Amplitude) (bits : List Bool) → Holds (one_case v) bits w → Proportional w v
 one_holds v w bits h = one_any (λ u. Proportional w u) v (one_any (λ c. CaseHolds bits w c) (record { vectors = v ∷ []; when = [] }) h).1
 
-no_bits : (bits : List Bool) → length bits ≡ 0 → bits ≡ []
-no_bits [] e = refl
-no_bits (b ∷ bs) e = absurd (omega (arith, e))
+-- bits of which each is 0
+all_zeros : (m : ℕ) (bits : List Bool) → length bits ≡ m → All (λ b. b ≡ false) bits → bits ≡ zeros m
+all_zeros zero [] e z = refl
+all_zeros (suc m) [] e z = absurd (omega (arith, e))
+all_zeros zero (b ∷ bs) e z = absurd (omega (arith, e))
+all_zeros (suc m) (b ∷ bs) e z =
+    ap₂ (λ (x : Bool) (xs : List Bool). x ∷ xs) (z 0 false (omega arith)) (all_zeros m bs (omega (arith, e)) (λ k d h. z (suc k) d (omega (arith, h))))
+
+zero_at : (m k : ℕ) (d : Bool) → k < length (zeros m) → slice_index_or (zeros m) k d ≡ false
+zero_at zero k d h = absurd (omega (arith, h))
+zero_at (suc m) zero d h = refl
+zero_at (suc m) (suc k) d h = zero_at m k d (omega (arith, h))
+
+zeros_sized : (m : ℕ) → length (zeros m) ≡ m
+zeros_sized zero = refl
+zeros_sized (suc m) = ap suc (zeros_sized m)
 
 -- what a start of the one obligation is
-starts : (n : ℕ) (gates : List Gate) (before after : List Amplitude) (bits : List Bool) (v : List Amplitude) → IsStart (gates_obligation n gates before after) bits v → (bits ≡ []) × (before ≡ v)
-starts n gates before after bits v s =
-    (no_bits bits s.sized, contains_one before v (one_any (λ c. IsListed bits v c) (record { vectors = before ∷ []; when = [] }) s.listed).1)
+starts : (n m : ℕ) (gates : List Gate) (before after : List Amplitude) (bits : List Bool) (v : List Amplitude) → IsStart (gates_obligation n m gates before after) bits v → (bits ≡ zeros m) × (before ≡ v)
+starts n m gates before after bits v s =
+    (all_zeros m bits s.sized (s.zeros refl), contains_one before v (one_any (λ c. IsListed bits v c) (record { vectors = before ∷ []; when = [] }) s.listed).1)
 
-start_is : (n : ℕ) (gates : List Gate) (before after : List Amplitude) → IsStart (gates_obligation n gates before after) [] before
-start_is n gates before after = record {
-  sized = refl;
-  listed = any_one (λ c. IsListed [] before c) (record { vectors = before ∷ []; when = [] }) (refl, one_contains before);
+start_is : (n m : ℕ) (gates : List Gate) (before after : List Amplitude) → IsStart (gates_obligation n m gates before after) (zeros m) before
+start_is n m gates before after = record {
+  sized = zeros_sized m;
+  listed = any_one (λ c. IsListed (zeros m) before c) (record { vectors = before ∷ []; when = [] }) (refl, one_contains before);
   given = tt;
-  zeros = λ _ k d h. absurd (omega (arith, h));
+  zeros = λ _. zero_at m;
 }
 
 -- its runs
-run_is : (n : ℕ) (gates : List Gate) (before after v : List Amplitude) (bits outcomes : List Bool) →
-    run_of (gates_obligation n gates before after) bits v outcomes ≡ run_of_gates n gates (record { bits = bits; vector = v; outcomes = outcomes; turns = 0 })
-run_is n gates before after v bits outcomes = gates_alone n gates (record { bits = bits; vector = v; outcomes = outcomes; turns = 0 })
+run_is : (n m : ℕ) (gates : List Gate) (before after v : List Amplitude) (bits outcomes : List Bool) →
+    run_of (gates_obligation n m gates before after) bits v outcomes ≡ run_of_gates n gates (record { bits = bits; vector = v; outcomes = outcomes; turns = 0 })
+run_is n m gates before after v bits outcomes = gates_alone n gates (record { bits = bits; vector = v; outcomes = outcomes; turns = 0 })
 
-end_is : (n : ℕ) (gates : List Gate) (before after v : List Amplitude) (bits outcomes : List Bool) → (run_of (gates_obligation n gates before after) bits v outcomes).last.vector ≡ apply_gates n gates v
-end_is n gates before after v bits outcomes = ap (λ (r : Run). r.last.vector) (run_is n gates before after v bits outcomes)
+end_is : (n m : ℕ) (gates : List Gate) (before after v : List Amplitude) (bits outcomes : List Bool) → (run_of (gates_obligation n m gates before after) bits v outcomes).last.vector ≡ apply_gates n gates v
+end_is n m gates before after v bits outcomes = ap (λ (r : Run). r.last.vector) (run_is n m gates before after v bits outcomes)
 
-end_bits_are : (n : ℕ) (gates : List Gate) (before after v : List Amplitude) (bits outcomes : List Bool) → (run_of (gates_obligation n gates before after) bits v outcomes).last.bits ≡ bits
-end_bits_are n gates before after v bits outcomes = ap (λ (r : Run). r.last.bits) (run_is n gates before after v bits outcomes)
+end_bits_are : (n m : ℕ) (gates : List Gate) (before after v : List Amplitude) (bits outcomes : List Bool) → (run_of (gates_obligation n m gates before after) bits v outcomes).last.bits ≡ bits
+end_bits_are n m gates before after v bits outcomes = ap (λ (r : Run). r.last.bits) (run_is n m gates before after v bits outcomes)
 
-true_if : (n : ℕ) (gates : List Gate) (before after : List Amplitude) → ((IsZeroVector (apply_gates n gates before) → ⊥) → Proportional (apply_gates n gates before) after) → IsTrueOf (gates_obligation n gates before after)
-true_if n gates before after goes = λ bits v outcomes start whole nonzero.
-    let s = starts n gates before after bits v start in
-    let end : (run_of (gates_obligation n gates before after) bits v outcomes).last.vector ≡ apply_gates n gates before
-    = end_is n gates before after v bits outcomes ∙ ap (apply_gates n gates) (sym s.1) in
+true_if : (n m : ℕ) (gates : List Gate) (before after : List Amplitude) → ((IsZeroVector (apply_gates n gates before) → ⊥) → Proportional (apply_gates n gates before) after) → IsTrueOf (gates_obligation n m gates before after)
+true_if n m gates before after goes = λ bits v outcomes start whole nonzero.
+    let s = starts n m gates before after bits v start in
+    let end : (run_of (gates_obligation n m gates before after) bits v outcomes).last.vector ≡ apply_gates n gates before
+    = end_is n m gates before after v bits outcomes ∙ ap (apply_gates n gates) (sym s.1) in
     let p : Proportional (apply_gates n gates before) after = goes (λ z. nonzero (subst IsZeroVector (sym end) z)) in
-    subst (λ (b : List Bool). Holds (one_case after) b (run_of (gates_obligation n gates before after) bits v outcomes).last.vector)
-    (sym (end_bits_are n gates before after v bits outcomes ∙ s.0))
-    (subst (λ (w : List Amplitude). Holds (one_case after) [] w) (sym end) (holds_one after (apply_gates n gates before) p))
+    subst (λ (b : List Bool). Holds (one_case after) b (run_of (gates_obligation n m gates before after) bits v outcomes).last.vector)
+    (sym (end_bits_are n m gates before after v bits outcomes ∙ s.0))
+    (subst (λ (w : List Amplitude). Holds (one_case after) (zeros m) w) (sym end) (holds_one after (apply_gates n gates before) (zeros m) p))
 
--- the one world
-abbrev first_world : List Amplitude → World
-first_world before = record { case = record { vectors = before ∷ []; when = [] }; start = []; bits = []; outcomes = []; vectors = before ∷ [] }
+-- bits that are known to be 0
+abbrev known : ℕ → Partial
+known m = replicate m (Some false)
+
+filled_known : (m : ℕ) → filled (known m) ≡ zeros m
+filled_known zero = refl
+filled_known (suc m) = ap (λ (bs : List Bool). false ∷ bs) (filled_known m)
+
+-- the one world at the end
+abbrev last_world : ℕ → ℕ → List Gate → List Amplitude → World
+last_world n m gates before = record {
+  case = record { vectors = before ∷ []; when = [] };
+  start = known m;
+  bits = known m;
+  outcomes = [];
+  vectors = apply_gates n gates before ∷ [];
+}
 
 spread-gate : (n : ℕ) (g : Gate) (w : World) → spread n (stmt.Gate g) w ≡ with_vectors (apply_gate n g) w ∷ []
 unfolding roll-Stmt roll
 spread-gate n g w = ap (λ (m : Spread). m w) (fold-roll-Stmt Spread (spread_step n) (Stmt-F.Gate g))
 
-gates_spread : (n : ℕ) (gates : List Gate) (before : List Amplitude) (c : ClaimCase) →
-    in_worlds (map (spread n) (map stmt.Gate gates)) (record { case = c; start = []; bits = []; outcomes = []; vectors = before ∷ [] })
-    ≡ record { case = c; start = []; bits = []; outcomes = []; vectors = apply_gates n gates before ∷ [] } ∷ []
-gates_spread n [] before c = refl
-gates_spread n (g ∷ gs) before c =
+gates_spread : (n : ℕ) (gates : List Gate) (before : List Amplitude) (c : ClaimCase) (bits : Partial) →
+    in_worlds (map (spread n) (map stmt.Gate gates)) (record { case = c; start = bits; bits = bits; outcomes = []; vectors = before ∷ [] })
+    ≡ record { case = c; start = bits; bits = bits; outcomes = []; vectors = apply_gates n gates before ∷ [] } ∷ []
+gates_spread n [] before c bits = refl
+gates_spread n (g ∷ gs) before c bits =
     let rest : Spread = in_worlds (map (spread n) (map stmt.Gate gs)) in
-    let w : World = record { case = c; start = []; bits = []; outcomes = []; vectors = before ∷ [] } in
-    let next : World = record { case = c; start = []; bits = []; outcomes = []; vectors = apply_gate n g before ∷ [] } in
-    ap (λ (ws : List World). flat_map rest ws) (spread-gate n g w) ∙ append-nil (rest next) ∙ gates_spread n gs (apply_gate n g before) c
+    let w : World = record { case = c; start = bits; bits = bits; outcomes = []; vectors = before ∷ [] } in
+    let next : World = record { case = c; start = bits; bits = bits; outcomes = []; vectors = apply_gate n g before ∷ [] } in
+    ap (λ (ws : List World). flat_map rest ws) (spread-gate n g w) ∙ append-nil (rest next) ∙ gates_spread n gs (apply_gate n g before) c bits
+
+-- a goal that asks for no bit mentions none
+none_mentioned : (after : List Amplitude) (bits : List ℕ) → filter (λ bit. list_any (mentions bit) (one_case after)) bits ≡ []
+none_mentioned after [] = refl
+none_mentioned after (b ∷ bs) = none_mentioned after bs
 
 -- the one world at the end, if its vector isn't zero
-worlds_are : (n : ℕ) (gates : List Gate) (before after : List Amplitude) → (IsZeroVector (apply_gates n gates before) → ⊥) →
-    worlds (gates_obligation n gates before after) ≡ record { case = record { vectors = before ∷ []; when = [] }; start = []; bits = []; outcomes = []; vectors = apply_gates n gates before ∷ [] } ∷ []
-worlds_are n gates before after nonzero =
-    let w : World = record { case = record { vectors = before ∷ []; when = [] }; start = []; bits = []; outcomes = []; vectors = apply_gates n gates before ∷ [] } in
-    let decide : Spread = in_worlds (map split (mentioned (gates_obligation n gates before after))) in
-    ap (λ (ws : List World). filter (λ (x : World). not (is_nought x)) (flat_map decide (ws ++ []))) (gates_spread n gates before (record { vectors = before ∷ []; when = [] }))
-    ∙ kept w (not_zero (apply_gates n gates before) nonzero)
+worlds_are : (n m : ℕ) (gates : List Gate) (before after : List Amplitude) → (IsZeroVector (apply_gates n gates before) → ⊥) →
+    worlds (gates_obligation n m gates before after) ≡ last_world n m gates before ∷ []
+worlds_are n m gates before after nonzero =
+    let decide : List ℕ → Spread = λ bits. in_worlds (map split bits) in
+    ap (λ (ws : List World). filter (λ (x : World). not (is_nought x)) (flat_map (decide (mentioned (gates_obligation n m gates before after))) (ws ++ [])))
+    (gates_spread n gates before (record { vectors = before ∷ []; when = [] }) (known m))
+    ∙ ap (λ (bits : List ℕ). filter (λ (x : World). not (is_nought x)) (flat_map (decide bits) (last_world n m gates before ∷ [])))
+    (none_mentioned after (tabulate m (λ bit. bit)))
+    ∙ kept (last_world n m gates before) (not_zero (apply_gates n gates before) nonzero)
   where
     kept : (w : World) → is_nought w ≡ false → filter (λ (x : World). not (is_nought x)) (w ∷ []) ≡ w ∷ []
     kept w e = rw e refl
@@ -129,59 +164,59 @@ worlds_are n gates before after nonzero =
 nothing : {A : Type 0} (P : A → Type 0) → All P []
 nothing P = λ k d h. absurd (omega (arith, h))
 
-refuted : (n : ℕ) (gates : List Gate) (before after : List Amplitude) → (IsZeroVector (apply_gates n gates before) → ⊥)
-    → (Proportional (apply_gates n gates before) after → ⊥) → IsRefutation (gates_obligation n gates before after) (gates_shown n gates before)
-refuted n gates before after nonzero apart = record {
+refuted : (n m : ℕ) (gates : List Gate) (before after : List Amplitude) → (IsZeroVector (apply_gates n gates before) → ⊥)
+    → (Proportional (apply_gates n gates before) after → ⊥) → IsRefutation (gates_obligation n m gates before after) (gates_shown n m gates before)
+refuted n m gates before after nonzero apart = record {
   earlier = [];
-  world = record { case = record { vectors = before ∷ []; when = [] }; start = []; bits = []; outcomes = []; vectors = apply_gates n gates before ∷ [] };
+  world = last_world n m gates before;
   later = [];
-  worlds_are = worlds_are n gates before after nonzero;
-  earlier_kept = nothing (λ w. All (IsKept (gates_obligation n gates before after) w) w.vectors);
+  worlds_are = worlds_are n m gates before after nonzero;
+  earlier_kept = nothing (λ w. All (IsKept (gates_obligation n m gates before after) w) w.vectors);
   before = [];
   escaping = apply_gates n gates before;
   after = [];
   vectors_are = refl;
-  before_kept = nothing (IsKept (gates_obligation n gates before after) (record { case = record { vectors = before ∷ []; when = [] }; start = []; bits = []; outcomes = []; vectors = apply_gates n gates before ∷ [] }));
+  before_kept = nothing (IsKept (gates_obligation n m gates before after) (last_world n m gates before));
   nonzero = nonzero;
-  escapes = λ h. apart (one_holds after (apply_gates n gates before) [] h);
-  bits_are = refl;
+  escapes = λ h. apart (one_holds after (apply_gates n gates before) (filled (known m)) h);
+  bits_are = sym (filled_known m);
   state_is = refl;
   outcomes_are = refl;
-  end_bits_are = sym (end_bits_are n gates before after before [] []);
-  end_is = sym (end_is n gates before after before [] []);
+  end_bits_are = sym (end_bits_are n m gates before after before (zeros m) []);
+  end_is = sym (end_is n m gates before after before (zeros m) []);
 }
 
-counterexample : (n : ℕ) (gates : List Gate) (before after : List Amplitude) → (IsZeroVector (apply_gates n gates before) → ⊥)
-    → (Proportional (apply_gates n gates before) after → ⊥) → IsCounterexample (gates_obligation n gates before after) (gates_shown n gates before)
-counterexample n gates before after nonzero apart = record {
-  start = start_is n gates before after;
-  whole = subst IsWhole (sym (run_is n gates before after before [] [])) (refl, refl);
-  end_bits_are = sym (end_bits_are n gates before after before [] []);
-  end_is = sym (end_is n gates before after before [] []);
+counterexample : (n m : ℕ) (gates : List Gate) (before after : List Amplitude) → (IsZeroVector (apply_gates n gates before) → ⊥)
+    → (Proportional (apply_gates n gates before) after → ⊥) → IsCounterexample (gates_obligation n m gates before after) (gates_shown n m gates before)
+counterexample n m gates before after nonzero apart = record {
+  start = start_is n m gates before after;
+  whole = subst IsWhole (sym (run_is n m gates before after before (zeros m) [])) (refl, refl);
+  end_bits_are = sym (end_bits_are n m gates before after before (zeros m) []);
+  end_is = sym (end_is n m gates before after before (zeros m) []);
   nonzero = nonzero;
-  escapes = λ h. apart (one_holds after (apply_gates n gates before) [] h);
+  escapes = λ h. apart (one_holds after (apply_gates n gates before) (zeros m) h);
 }
 
-wide_gate : (n : ℕ) (gates : List Gate) (before after : List Amplitude) (step : Played) → Contains (played_gates n gates before) step
-    → (FitsGate n step.gate step.before → ⊥) → IsWide (gates_obligation n gates before after)
-wide_gate n gates before after step in_run unfit = inl (record {
-  bits = [];
+wide_gate : (n m : ℕ) (gates : List Gate) (before after : List Amplitude) (step : Played) → Contains (played_gates n gates before) step
+    → (FitsGate n step.gate step.before → ⊥) → IsWide (gates_obligation n m gates before after)
+wide_gate n m gates before after step in_run unfit = inl (record {
+  bits = zeros m;
   vector = before;
   outcomes = [];
-  start = start_is n gates before after;
+  start = start_is n m gates before after;
   step = step;
-  played = subst (λ (r : Run). Contains r.played step) (sym (run_is n gates before after before [] [])) in_run;
+  played = subst (λ (r : Run). Contains r.played step) (sym (run_is n m gates before after before (zeros m) [])) in_run;
   wide = unfit;
 })
 
-wide_product : (n : ℕ) (gates : List Gate) (before after : List Amplitude) (left right : Amplitude) → Contains (apply_gates n gates before) left
-    → Contains after right → (FitsAmplitudeProduct left right → ⊥) → IsWide (gates_obligation n gates before after)
-wide_product n gates before after left right in_end in_goal unfit = inr (inl (record {
-  bits = [];
+wide_product : (n m : ℕ) (gates : List Gate) (before after : List Amplitude) (left right : Amplitude) → Contains (apply_gates n gates before) left
+    → Contains after right → (FitsAmplitudeProduct left right → ⊥) → IsWide (gates_obligation n m gates before after)
+wide_product n m gates before after left right in_end in_goal unfit = inr (inl (record {
+  bits = zeros m;
   vector = before;
   outcomes = [];
-  start = start_is n gates before after;
-  whole = subst IsWhole (sym (run_is n gates before after before [] [])) (refl, refl);
+  start = start_is n m gates before after;
+  whole = subst IsWhole (sym (run_is n m gates before after before (zeros m) [])) (refl, refl);
   case = record { vectors = after ∷ []; when = [] };
   of_goal = one_contains (record { vectors = after ∷ []; when = [] });
   met = refl;
@@ -189,7 +224,7 @@ wide_product n gates before after left right in_end in_goal unfit = inr (inl (re
   listed = one_contains after;
   left = left;
   right = right;
-  of_end = subst (λ (v : List Amplitude). Contains v left) (sym (end_is n gates before after before [] [])) in_end;
+  of_end = subst (λ (v : List Amplitude). Contains v left) (sym (end_is n m gates before after before (zeros m) [])) in_end;
   of_vector = in_goal;
   wide = unfit;
 }))
@@ -198,33 +233,33 @@ gates-proportional : (n : ℕ) (gates : List Gate) (u v : List Amplitude) → Pr
 gates-proportional n [] u v p = p
 gates-proportional n (g ∷ gs) u v p = gates-proportional n gs (apply_gate n g u) (apply_gate n g v) (apply_gate-proportional n g u v p)
 
-correct : (n : ℕ) (gates : List Gate) (before after : List Amplitude) → IsTrueOf (gates_obligation n gates before after) → IsCorrect (gates_program n gates before after)
-correct n gates before after holds = λ v outcomes turns nonzero pre.
-    let s : State = record { bits = []; vector = v; outcomes = outcomes; turns = turns } in
-    let is : run_from (gates_program n gates before after) v outcomes turns ≡ run_of_gates n gates s = gates_alone n gates s in
-    let p : Proportional v before = one_holds before v [] pre in
+correct : (n m : ℕ) (gates : List Gate) (before after : List Amplitude) → IsTrueOf (gates_obligation n m gates before after) → IsCorrect (gates_program n m gates before after)
+correct n m gates before after holds = λ v outcomes turns nonzero pre.
+    let s : State = record { bits = zeros m; vector = v; outcomes = outcomes; turns = turns } in
+    let is : run_from (gates_program n m gates before after) v outcomes turns ≡ run_of_gates n gates s = gates_alone n gates s in
+    let p : Proportional v before = one_holds before v (zeros m) pre in
     let q : Proportional (apply_gates n gates v) (apply_gates n gates before) = gates-proportional n gates v before p in (
-      subst (λ (r : Run). All (PassedHolds (gates_program n gates before after)) r.passed) (sym is) (nothing (PassedHolds (gates_program n gates before after))),
+      subst (λ (r : Run). All (PassedHolds (gates_program n m gates before after)) r.passed) (sym is) (nothing (PassedHolds (gates_program n m gates before after))),
       subst (λ (r : Run). r.how ≡ How.Ended → (IsZeroVector r.last.vector → ⊥) → Holds (one_case after) r.last.bits r.last.vector) (sym is)
-          (λ _ some. holds_one after (apply_gates n gates v) (joined_end v q some)),
+          (λ _ some. holds_one after (apply_gates n gates v) (zeros m) (joined_end v q some)),
     )
   where
     joined_end : (v : List Amplitude) → Proportional (apply_gates n gates v) (apply_gates n gates before) → (IsZeroVector (apply_gates n gates v) → ⊥) → Proportional (apply_gates n gates v) after
     joined_end v q some =
-        let o : Obligation = gates_obligation n gates before after in
-        let r : Run = run_of o [] before [] in
-        let end : r.last.vector ≡ apply_gates n gates before = end_is n gates before after before [] [] in
+        let o : Obligation = gates_obligation n m gates before after in
+        let r : Run = run_of o (zeros m) before [] in
+        let end : r.last.vector ≡ apply_gates n gates before = end_is n m gates before after before (zeros m) [] in
         let back = proportional-equivalence.symmetric (apply_gates n gates v) (apply_gates n gates before) q in
-        let h : Holds (one_case after) r.last.bits r.last.vector = holds [] before [] (start_is n gates before after)
-        (subst IsWhole (sym (run_is n gates before after before [] [])) (refl, refl))
+        let h : Holds (one_case after) r.last.bits r.last.vector = holds (zeros m) before [] (start_is n m gates before after)
+        (subst IsWhole (sym (run_is n m gates before after before (zeros m) [])) (refl, refl))
         (λ z. some (proportional-keeps.zero_together (apply_gates n gates before) (apply_gates n gates v) back (subst IsZeroVector end z))) in
         let e : Proportional (apply_gates n gates before) after = subst (λ (w : List Amplitude). Proportional w after) end (one_holds after r.last.vector r.last.bits h) in
         proportional-equivalence.transitive (apply_gates n gates v) (apply_gates n gates before) after q e
 
 pub gates_alone_laws : GatesAloneLaws
 gates_alone_laws = record {
-  zero = λ n gates before after z. true_if n gates before after (λ some. absurd (some z));
-  proportional = λ n gates before after p. true_if n gates before after (λ _. p);
+  zero = λ n m gates before after z. true_if n m gates before after (λ some. absurd (some z));
+  proportional = λ n m gates before after p. true_if n m gates before after (λ _. p);
   different = refuted;
   counterexample = counterexample;
   wide_gate = wide_gate;

@@ -1,13 +1,6 @@
 -- A thin text is read in one way.
-use Rattle.aq_thin.specs.Laws.{OneProgram, OneSets}
-use Rattle.aq_thin.proofs.CallsLaws.{one_program}
+use Rattle.aq_thin.specs.Laws.{OneSets}
 use Rattle.aq_thin.proofs.ClaimLaws.{one_sets}
-
-pub one_program_law : OneProgram
-one_program_law = record {
-  qubits = λ bytes m n calls others p q. let s = one_program bytes m n calls others p q in s.qubits;
-  calls = λ bytes m n calls others p q. let s = one_program bytes m n calls others p q in s.calls;
-}
 
 pub one_sets_law : OneSets
 one_sets_law = record {

@@ -11,9 +11,12 @@ use Rattle.aq_thin.specs.declared.term.ThinTerm.{ThinTerm}
 use Rattle.aq_thin.specs.Pieces.{ends_word, Piece}
 use Rattle.aq_thin.specs.SetTexts.{is_binary, binary_after, IsKet, sign_text, IsSigned, AreMore, IsFirst, AreTerms, no_repeats, index_of}
 use Rattle.aq_thin.specs.Reading.{behind_blanks, text_at, ket_in, ket_at, signed, signed_from, signed_at, first_at}
-use Rattle.aq_thin.proofs.PieceLaws.{found_text, text_found, front_is, take_front, drop_front, take_drop}
-use Rattle.aq_thin.proofs.CallsLaws.{piece_leaves}
-use Rattle.aq_thin.proofs.CallLaws.{joined}
+use Rattle.aq_thin.proofs.PieceLaws.{found_text, text_found, front_is, take_front, drop_front, take_drop, piece_leaves}
+
+joined : {A : Type 0} (a b : A) (x y : List ℕ) → ◌≡◌ {A = Option (A × List ℕ)} (Some (a, x)) (Some (b, y)) → (a ≡ b) × (x ≡ y)
+joined {A = A} a b x y e =
+    let h : ◌≡◌ {A = A × List ℕ} (a, x) (b, y) = cc in
+    (ap (λ (w : A × List ℕ). w.0) h, ap (λ (w : A × List ℕ). w.1) h)
 
 -- a ket's text doesn't end in a word's byte
 ket_ends : (b : ℕ) (digits : List ℕ) → ends_word (b ∷ (digits ++ 62 ∷ [])) ≡ false

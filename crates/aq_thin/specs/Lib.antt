@@ -1,5 +1,4 @@
 pub mod Pieces
-pub mod Programs
 pub mod SetTexts
 pub mod Reading
 pub mod Laws

@@ -2,9 +2,9 @@
 --
 -- This is how a text without comments is cut into tokens, where each token is as long as possible: a word isn't followed
 -- by a letter, a digit or `_`.
-use Rattle.std.specs.Prelude.{◌≡◌, ℕ, ◌+◌, ◌*◌, ◌-◌, Bool, true, false, ◌&&◌, not, List, [], ◌∷◌, ◌++◌, Option, Some, None, if◌then◌else◌}
+use Rattle.std.specs.Prelude.{◌≡◌, ℕ, Bool, true, false, ◌&&◌, not, List, [], ◌∷◌, ◌++◌}
 use Rattle.std.specs.List.{list_all}
-use Rattle.aq_lex.specs.Bytes.{is_blank, is_word, is_digit}
+use Rattle.aq_lex.specs.Bytes.{is_blank, is_word}
 
 -- the first byte goes on with a word
 abbrev pub begins_word : List ℕ → Bool
@@ -37,9 +37,3 @@ Pieces (t ∷ ts) bytes rest = (middle : List ℕ) × Piece t bytes middle × Pi
 -- blanks are all that is left
 abbrev pub IsEnd : List ℕ → Type 0
 IsEnd bytes = list_all is_blank bytes ≡ true
-
--- the number of a numeral, which has one digit or two
-abbrev pub numeral_value : List ℕ → Option ℕ
-numeral_value (d ∷ []) = if is_digit d then Some (d - 48) else None
-numeral_value (d ∷ e ∷ []) = if is_digit d && is_digit e then Some (10 * (d - 48) + (e - 48)) else None
-numeral_value _ = None

@@ -6,8 +6,9 @@ ghost use Rattle.aq_thin.specs.Reading.{ket_at, signed, signed_at, first_at};
 ghost use Rattle.aq_thin.specs.declared.term.ThinTerm.{ThinTerm};
 
 use crate::fault::ThinFault;
-use crate::scan::{begins, behind_blanks, is_end, rest_from, text_at, texts_at};
+use crate::scan::{behind_blanks, is_end, rest_from, text_at, texts_at};
 use crate::term::ThinTerm;
+use aq_lex::scan::begins;
 use sqlite_items::Items;
 use std::alloc::Global;
 use std::collections::BTreeSet;

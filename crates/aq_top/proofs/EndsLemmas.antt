@@ -1,25 +1,27 @@
 -- How the parts of a run make its ends, and what these say.
-use Rattle.std.proofs.Common.{◌≡◌, ℕ, List, Option, Some, None, refl, ap, sym, ◌∙◌, subst, ◌⊎◌, inl, inr, map, ap₂}
+use Rattle.std.proofs.Common.{◌≡◌, ℕ, Bool, true, false, List, Option, Some, None, refl, sym, ◌∙◌, subst, ◌⊎◌, inl, inr}
 use Rattle.std.specs.Io.KnownBytes.{Appends}
 use Rattle.aq_world.specs.Held.{Held, bytes_at}
-use Rattle.aq_world.specs.Prints.{IsPrefixOf}
 use Rattle.aq_obligations.specs.Correct.{IsCorrect}
 use Rattle.aq_obligations.specs.Obligations.{Obligation, IsTrueOf}
 use Rattle.aq_obligations.proofs.GatesAloneProofs.{gates_alone_laws}
 use Rattle.aq_report.specs.declared.verdict.Verdict.{Verdict}
 use Rattle.aq_report.specs.declared.verdict.Verdict.TheVariants as verdict
 use Rattle.aq_report.specs.Verdicts.{IsJustified}
-use Rattle.aq_thin.specs.Programs.{IsThinProgram}
 use Rattle.aq_thin.specs.SetTexts.{IsThinSets}
-use Rattle.aq_thin.specs.declared.call.ThinCall.{ThinCall}
-use Rattle.aq_thin.specs.declared.term.ThinTerm.{ThinTerm}
-use Rattle.aq_thin.proofs.CallsLaws.{one_program}
 use Rattle.aq_thin.proofs.ClaimLaws.{one_sets}
+use Rattle.aq_elab.proofs.TextsLaws.{one_program}
+use Rattle.aq_prog.specs.declared.program.Program.{Program}
+use Rattle.aq_prog.specs.declared.stmt.Stmt.{Stmt}
+use Rattle.aq_obligations.specs.GatesAlone.{plain_obligation, plain_program}
+use Rattle.aq_top.specs.Bodies.{are_gates, gates_in}
+use Rattle.aq_top.specs.Faults.{is_memory, refused_or_memory}
+use Rattle.aq_top.proofs.StmtLemmas.{body_is}
 use Rattle.aq_top.specs.Clauses.{IsAnswer, Reports, Ends, ToldIsCorrect, ReadsFailed}
-use Rattle.aq_top.specs.Ends.{MayHold, ReadsTask, HasCause, stop_text, stop_status, verdict_status, post_report, IsReport, IsStop, IsEndText, IsFrontOfEnd, EndsAs}
+use Rattle.aq_top.specs.Ends.{MayHold, ReadsTask, HasCause, stop_text, stop_status, verdict_status, post_report, IsEndText, EndsAs}
 use Rattle.aq_top.specs.Lines.{usage_text}
 use Rattle.aq_top.specs.Said.{Said}
-use Rattle.aq_top.specs.Tasks.{Task, IsTask, obligation_of, program_of, gate_of, bracket_vector}
+use Rattle.aq_top.specs.Tasks.{Task, IsTask, obligation_of, program_of, bracket_vector}
 use Rattle.aq_top.specs.Words.{CheckWords}
 use Rattle.aq_top.specs.declared.load.Stop.{Stop}
 use Rattle.aq_top.specs.declared.load.Stop.TheVariants as stop
@@ -47,11 +49,16 @@ pub report_ends : (told : Option Held) (RF : List ℕ → Type 0) (WF : Type 0) 
 report_ends told RF WF w t v result written read justified said =
     said_ends told RF WF (Some w) (verdict_status v) result (post_report v) written (inl (record { task = t; read = read; verdict = v; justified = justified; status_is = refl; text_is = refl })) said
 
+no_fault_answer : (v : Bool) → IsAnswer (refused_or_memory v) → ⊥
+no_fault_answer true a = a
+no_fault_answer false a = a
+
 no_answer : (s : Stop) → IsAnswer (stop_status s) → ⊥
-no_answer stop.ProgramFault a = a
+no_answer stop.ProgramUnread a = a
 no_answer stop.ProgramTooLong a = a
+no_answer (stop.ProgramRefused f) a = no_fault_answer (is_memory f) a
 no_answer stop.ProgramUnbuilt a = a
-no_answer stop.SetsFault a = a
+no_answer stop.SetsUnread a = a
 no_answer stop.SetsTooLong a = a
 no_answer stop.SetsUnbuilt a = a
 no_answer stop.Memory a = a
@@ -78,15 +85,25 @@ good_verdict (verdict.GaveUp w) e = cc
 true_of : (o : Obligation) (v : Verdict) → status.Good ≡ verdict_status v → IsJustified o v → IsTrueOf o
 true_of o v e j = subst (IsJustified o) (good_verdict v e) j
 
-same_task : (s t : Task) → s.qubits ≡ t.qubits → s.calls ≡ t.calls → s.before ≡ t.before → s.after ≡ t.after → s ≡ t
-same_task s t a b c d = λ i. record { qubits = a i; calls = b i; before = c i; after = d i }
+same_task : (s t : Task) → s.program ≡ t.program → s.before ≡ t.before → s.after ≡ t.after → s ≡ t
+same_task s t a b c = λ i. record { program = a i; before = b i; after = c i }
 
 -- two texts say one task
 one_task : (p q : List ℕ) (s t : Task) → IsTask p q s → IsTask p q t → s ≡ t
 one_task p q s t x y =
-    let one = one_program p s.qubits t.qubits s.calls t.calls x.program_is y.program_is in
-    let sets = one_sets q t.qubits s.before s.after t.before t.after (subst (λ (n : ℕ). IsThinSets q n s.before s.after) one.qubits x.sets_are) y.sets_are in
-    same_task s t one.qubits one.calls sets.before_is sets.after_is
+    let one : s.program ≡ t.program = one_program p s.program t.program x.program_is y.program_is in
+    let sets = one_sets q t.program.qubits s.before s.after t.before t.after (subst (λ (o : Program). IsThinSets q o.qubits s.before s.after) one x.sets_are) y.sets_are in
+    same_task s t one sets.before_is sets.after_is
+
+-- a program of gates alone that meets its obligation is correct
+task_correct : (t : Task) → are_gates t.program.body ≡ true → IsTrueOf (obligation_of t) → IsCorrect (program_of t)
+task_correct t gates holds =
+    let p = t.program in
+    let before = bracket_vector p.qubits t.before in
+    let after = bracket_vector p.qubits t.after in
+    let e = body_is p.body gates in
+    subst (λ (b : List Stmt). IsCorrect (plain_program p.qubits p.bits b before after)) (sym e)
+    (gates_alone_laws.correct p.qubits p.bits (gates_in p.body) before after (subst (λ (b : List Stmt). IsTrueOf (plain_obligation p.qubits p.bits b before after)) e holds))
 
 told_task : (told : Option Held) (held : Held) (w : CheckWords) (s t : Task) → told ≡ Some held → ReadsTask told w s → IsTask (bytes_at held w.program) (bytes_at held w.sets) t → s ≡ t
 told_task told held w s t e read says =
@@ -105,8 +122,7 @@ correct_of told words before after r = λ held w t told_is words_are says.
     let read : ReadsTask told w report.task = subst (λ (x : CheckWords). ReadsTask told x report.task) same report.read in
     let task : report.task ≡ t = told_task told held w report.task t told_is read says in
     subst (λ (x : Task). IsCorrect (program_of x)) task
-    (gates_alone_laws.correct report.task.qubits (map gate_of report.task.calls) (bracket_vector report.task.qubits report.task.before) (bracket_vector report.task.qubits report.task.after)
-    (true_of (obligation_of report.task) report.verdict report.status_is report.justified))
+    (task_correct report.task read.gates (true_of (obligation_of report.task) report.verdict report.status_is report.justified))
 
 pub good_is_correct : (told : Option Held) (RF : List ℕ → Type 0) (WF : Type 0) (words : Option CheckWords) (before after : Option (List ℕ)) (result : Status)
     → Ends told RF WF words before after result → result ≡ status.Good → ToldIsCorrect told words
@@ -114,11 +130,16 @@ good_is_correct told RF WF words before after result e good =
     correct_of told words before after (subst (λ (r : Status). Reports told words before after r) good
     (reports_of told RF WF words before after result e (subst IsAnswer (sym good) tt)))
 
+fault_unread : (v : Bool) → status.Read ≡ refused_or_memory v → ⊥
+fault_unread true e = cc
+fault_unread false e = cc
+
 read_stop : (told : Option Held) (RF : List ℕ → Type 0) (w : CheckWords) (s : Stop) → status.Read ≡ stop_status s → HasCause told RF w s → RF w.program ⊎ RF w.sets
-read_stop told RF w stop.ProgramFault e cause = inl cause
+read_stop told RF w stop.ProgramUnread e cause = inl cause
 read_stop told RF w stop.ProgramTooLong e cause = cc
+read_stop told RF w (stop.ProgramRefused f) e cause = absurd (fault_unread (is_memory f) e)
 read_stop told RF w stop.ProgramUnbuilt e cause = cc
-read_stop told RF w stop.SetsFault e cause = inr cause
+read_stop told RF w stop.SetsUnread e cause = inr cause.then
 read_stop told RF w stop.SetsTooLong e cause = cc
 read_stop told RF w stop.SetsUnbuilt e cause = cc
 read_stop told RF w stop.Memory e cause = cc
@@ -139,11 +160,16 @@ pub read_has_cause : (told : Option Held) (RF : List ℕ → Type 0) (WF : Type 
     → Ends told RF WF words before after result → result ≡ status.Read → ReadsFailed RF words
 read_has_cause told RF WF words before after result e r = read_cause told RF WF words result e.0 e.2 r
 
+fault_unwritten : (v : Bool) → status.Write ≡ refused_or_memory v → ⊥
+fault_unwritten true e = cc
+fault_unwritten false e = cc
+
 stop_unwritten : (s : Stop) → status.Write ≡ stop_status s → ⊥
-stop_unwritten stop.ProgramFault e = cc
+stop_unwritten stop.ProgramUnread e = cc
 stop_unwritten stop.ProgramTooLong e = cc
+stop_unwritten (stop.ProgramRefused f) e = fault_unwritten (is_memory f) e
 stop_unwritten stop.ProgramUnbuilt e = cc
-stop_unwritten stop.SetsFault e = cc
+stop_unwritten stop.SetsUnread e = cc
 stop_unwritten stop.SetsTooLong e = cc
 stop_unwritten stop.SetsUnbuilt e = cc
 stop_unwritten stop.Memory e = cc
@@ -164,11 +190,16 @@ pub write_has_cause : (told : Option Held) (RF : List ℕ → Type 0) (WF : Type
     → Ends told RF WF words before after result → result ≡ status.Write → WF
 write_has_cause told RF WF words before after result e r = write_cause told RF WF words result e.0 e.2 r
 
+fault_unused : (v : Bool) → status.Usage ≡ refused_or_memory v → ⊥
+fault_unused true e = cc
+fault_unused false e = cc
+
 stop_unused : (s : Stop) → status.Usage ≡ stop_status s → ⊥
-stop_unused stop.ProgramFault e = cc
+stop_unused stop.ProgramUnread e = cc
 stop_unused stop.ProgramTooLong e = cc
+stop_unused (stop.ProgramRefused f) e = fault_unused (is_memory f) e
 stop_unused stop.ProgramUnbuilt e = cc
-stop_unused stop.SetsFault e = cc
+stop_unused stop.SetsUnread e = cc
 stop_unused stop.SetsTooLong e = cc
 stop_unused stop.SetsUnbuilt e = cc
 stop_unused stop.Memory e = cc

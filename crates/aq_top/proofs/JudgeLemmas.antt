@@ -1,25 +1,28 @@
 -- What the judge finds is what it is to show.
-use Rattle.std.proofs.Common.{◌≡◌, ◌≢◌, ℕ, zero, suc, ◌+◌, ◌<◌, ◌≤◌, Bool, true, List, [], ◌∷◌, ◌++◌, All, Contains, length, map, take, drop, get_or, slice_index_or, refl, ap, sym, ◌∙◌, subst, arith, ◌⊎◌, inl, inr, drop-cons, add-one, Result, Ok, Err, OnOk, OnErr, false, IsTrue, ◌↔◌}
-use Rattle.std.specs.List.{flat_map}
+use Rattle.std.proofs.Common.{◌≡◌, ℕ, zero, suc, ◌<◌, ◌≤◌, Bool, true, List, [], ◌∷◌, All, Contains, length, map, refl, ap, sym, ◌∙◌, subst, arith, ◌⊎◌, inl, inr, Result, Ok, Err, OnOk, OnErr, false, IsTrue, ◌↔◌}
 use Rattle.std.specs.Result.{is_err}
 use Rattle.std.proofs.lemmas.Bool.{cases_lt}
 use Rattle.aq_ring.specs.Fractions.{Amplitude}
-use Rattle.aq_ring.specs.Amplitudes.{amplitude_zero, FitsQuotient, FitsSum, FitsAmplitudeProduct}
+use Rattle.aq_ring.specs.Amplitudes.{FitsQuotient, FitsAmplitudeProduct}
 use Rattle.aq_ring.specs.Vectors.{IsZeroVector, Proportional}
 use Rattle.aq_label.specs.declared.Ratio.{Ratio}
 use Rattle.aq_label.specs.declared.Ratio.TheVariants.{AllZero, Different, Wide, Same}
-use Rattle.aq_label.specs.Ratios.{lefts, rights, at, IsPivot, ComesTo, IsWide, IsWideBy, IsRatio, IsSame, IsDifferent}
-use Rattle.aq_prog.specs.Gates.{apply_gate, apply_gates, divided, term, FitsDivided, FitsTerm, FitsGate, FitsGateAt, IsValidGate}
+use Rattle.aq_label.specs.Ratios.{lefts, rights, at, IsWideBy, IsRatio, IsSame, IsDifferent}
+use Rattle.aq_prog.specs.Gates.{apply_gate, apply_gates, divided, FitsDivided, FitsTerm, FitsGate, FitsGateAt, IsValidGate}
 use Rattle.aq_prog.specs.Runs.{Played, played_gates}
 use Rattle.aq_prog.specs.declared.gate.Entry.{Entry}
 use Rattle.aq_prog.specs.declared.gate.Entry.TheVariants as entry
 use Rattle.aq_prog.specs.declared.gate.Gate.{Gate}
-use Rattle.aq_plain.specs.Wide.{IsWideDivision, IsWideTerm, IsWideRow, IsWideAt, IsFirstWide, row_entry, paired}
+use Rattle.aq_prog.specs.declared.stmt.Stmt.{Stmt}
+use Rattle.aq_prog.specs.declared.stmt.Stmt.TheVariants as stmt
+use Rattle.aq_plain.specs.Wide.{IsWideTerm, IsWideRow, IsWideAt, IsFirstWide, row_entry, paired}
 use Rattle.aq_obligations.specs.Obligations.{IsCounterexample}
 use Rattle.aq_obligations.specs.Worlds.{IsRefutation}
-use Rattle.aq_obligations.specs.GatesAlone.{gates_obligation, gates_shown}
+use Rattle.aq_obligations.specs.Correct.{zeros}
+use Rattle.aq_obligations.specs.GatesAlone.{gates_obligation, gates_shown, plain_obligation}
 use Rattle.aq_obligations.proofs.GatesAloneProofs.{gates_alone_laws}
 use Rattle.aq_report.specs.declared.verdict.Refutation.{Refutation}
+use Rattle.aq_report.specs.declared.verdict.Verdict.{Verdict}
 use Rattle.aq_report.specs.declared.verdict.Verdict.TheVariants as verdict
 use Rattle.aq_report.specs.declared.verdict.Why.TheVariants as why
 use Rattle.aq_report.specs.Verdicts.{shown_by, IsRefutedBy, IsJustified}
@@ -53,12 +56,8 @@ pub unfit_gate : (n : ℕ) (gate : Gate) (v : List Amplitude) (l r : Amplitude) 
 unfit_gate n gate v l r w f = unfit_row n gate v w.index l r w.here (f.at w.index w.within)
 
 -- the gates to come, where the first one is played
-pub rest_played : (n i : ℕ) (gates : List Gate) (d : Gate) (v w : List Amplitude) → i < length gates → w ≡ apply_gate n (get_or gates i d) v
-    → apply_gates n (drop i gates) v ≡ apply_gates n (drop (i + 1) gates) w
-rest_played n i gates d v w h e =
-    ap (λ (l : List Gate). apply_gates n l v) (drop-cons gates i d h)
-    ∙ ap (λ (u : List Amplitude). apply_gates n (drop (suc i) gates) u) (sym e)
-    ∙ ap (λ (k : ℕ). apply_gates n (drop k gates) w) (sym (add-one i))
+pub rest_played : (n : ℕ) (g : Gate) (rest more : List Gate) (v w : List Amplitude) → rest ≡ g ∷ more → w ≡ apply_gate n g v → apply_gates n rest v ≡ apply_gates n more w
+rest_played n g rest more v w cut e = ap (λ (l : List Gate). apply_gates n l v) cut ∙ ap (λ (u : List Amplitude). apply_gates n more u) (sym e)
 
 -- what is met later is met
 later_contains : {A : Type 0} (x y : A) (ys : List A) → Contains ys y → Contains (x ∷ ys) y
@@ -68,24 +67,31 @@ later_contains x y ys c = (suc c.0, omega (arith, c.1), c.2)
 pub record StepsBack (n : ℕ) (gates rest : List Gate) (v w : List Amplitude) : Type 0 where
   pub go : (s : Played) → Contains (played_gates n rest w) s → Contains (played_gates n gates v) s
 
-pub steps_back : (n i : ℕ) (gates : List Gate) (d : Gate) (v u w : List Amplitude) → i < length gates → w ≡ apply_gate n (get_or gates i d) u
-    → StepsBack n gates (drop i gates) v u → StepsBack n gates (drop (i + 1) gates) v w
-steps_back n i gates d v u w h e back = record {
+pub steps_back : (n : ℕ) (gates rest more : List Gate) (g : Gate) (v u w : List Amplitude) → rest ≡ g ∷ more → w ≡ apply_gate n g u → StepsBack n gates rest v u → StepsBack n gates more v w
+steps_back n gates rest more g v u w cut e back = record {
   go = λ s c.
-      back.go s (subst (λ (l : List Gate). Contains (played_gates n l u) s) (sym (drop-cons gates i d h))
-      (later_contains (record { gate = get_or gates i d; before = u }) s (played_gates n (drop (suc i) gates) (apply_gate n (get_or gates i d) u))
-      (subst (λ (x : List Amplitude). Contains (played_gates n (drop (suc i) gates) x) s) e
-      (subst (λ (k : ℕ). Contains (played_gates n (drop k gates) w) s) (add-one i) c))));
+      back.go s (subst (λ (l : List Gate). Contains (played_gates n l u) s) (sym cut)
+      (later_contains (record { gate = g; before = u }) s (played_gates n more (apply_gate n g u)) (subst (λ (x : List Amplitude). Contains (played_gates n more x) s) e c)));
 }
 
-pub wide_step : (n i : ℕ) (gates : List Gate) (d : Gate) (v u : List Amplitude) → i < length gates → StepsBack n gates (drop i gates) v u
-    → (FitsGate n (get_or gates i d) u → ⊥) → WideStep n gates v
-wide_step n i gates d v u h back unfit = record {
-  step = record { gate = get_or gates i d; before = u };
-  met = back.go (record { gate = get_or gates i d; before = u })
-      (subst (λ (g : List Gate). Contains (played_gates n g u) (record { gate = get_or gates i d; before = u })) (sym (drop-cons gates i d h)) (0, omega arith, refl));
+pub same_steps : (n : ℕ) (gates rest more : List Gate) (v u : List Amplitude) → rest ≡ more → StepsBack n gates rest v u → StepsBack n gates more v u
+same_steps n gates rest more v u e back = subst (λ (l : List Gate). StepsBack n gates l v u) e back
+
+pub wide_step : (n : ℕ) (gates rest more : List Gate) (g : Gate) (v u : List Amplitude) → rest ≡ g ∷ more → StepsBack n gates rest v u → (FitsGate n g u → ⊥) → WideStep n gates v
+wide_step n gates rest more g v u cut back unfit = record {
+  step = record { gate = g; before = u };
+  met = back.go (record { gate = g; before = u })
+      (subst (λ (l : List Gate). Contains (played_gates n l u) (record { gate = g; before = u })) (sym cut) (0, omega arith, refl));
   wide = unfit;
 }
+
+-- of valid gates, the first one and those behind it
+pub first_valid : (n : ℕ) (g : Gate) (rest more : List Gate) → rest ≡ g ∷ more → All (IsValidGate n) rest → IsValidGate n g
+first_valid n g rest more cut v = let w : All (IsValidGate n) (g ∷ more) = subst (λ (l : List Gate). All (IsValidGate n) l) cut v in w 0 g (omega arith)
+
+pub later_valid : (n : ℕ) (g : Gate) (rest more : List Gate) → rest ≡ g ∷ more → All (IsValidGate n) rest → All (IsValidGate n) more
+later_valid n g rest more cut v =
+    let w : All (IsValidGate n) (g ∷ more) = subst (λ (l : List Gate). All (IsValidGate n) l) cut v in λ i d h. w (suc i) d (omega (arith, h))
 
 -- one part each
 lefts-pairs : (pairs : List (Amplitude × Amplitude)) → lefts (λ (p : Amplitude). p ∷ []) pairs ≡ map (λ p. p.0) pairs
@@ -133,35 +139,35 @@ compares pairs u v r same e f is p d =
     (subst (λ (x : List Amplitude). IsDifferent r → ¬ (Proportional x v)) left (subst (λ (y : List Amplitude). IsDifferent r → ¬ (Proportional (lefts (λ (p : Amplitude). p ∷ []) pairs) y)) right d))
 
 -- a refutation that shows the end of the gates
-pub refuted_by : (n : ℕ) (gates : List Gate) (before after : List Amplitude) (r : Refutation) → r.state.qubits ≡ n → r.end.qubits ≡ n
-    → shown_by r ≡ gates_shown n gates before → (IsZeroVector (apply_gates n gates before) → ⊥) → (Proportional (apply_gates n gates before) after → ⊥)
-    → IsRefutedBy (gates_obligation n gates before after) r
-refuted_by n gates before after r state end shown nonzero apart = record {
+pub refuted_by : (n m : ℕ) (gates : List Gate) (before after : List Amplitude) (r : Refutation) → r.state.qubits ≡ n → r.end.qubits ≡ n
+    → shown_by r ≡ gates_shown n m gates before → (IsZeroVector (apply_gates n gates before) → ⊥) → (Proportional (apply_gates n gates before) after → ⊥)
+    → IsRefutedBy (gates_obligation n m gates before after) r
+refuted_by n m gates before after r state end shown nonzero apart = record {
   state_qubits = state;
   end_qubits = end;
-  refutation = subst (IsRefutation (gates_obligation n gates before after)) (sym shown) (gates_alone_laws.different n gates before after nonzero apart);
-  counterexample = subst (IsCounterexample (gates_obligation n gates before after)) (sym shown) (gates_alone_laws.counterexample n gates before after nonzero apart);
+  refutation = subst (IsRefutation (gates_obligation n m gates before after)) (sym shown) (gates_alone_laws.different n m gates before after nonzero apart);
+  counterexample = subst (IsCounterexample (gates_obligation n m gates before after)) (sym shown) (gates_alone_laws.counterexample n m gates before after nonzero apart);
 }
 
 -- a vector that is equal to the end
-pub refuted_end : (n : ℕ) (gates : List Gate) (before after end : List Amplitude) (r : Refutation) → end ≡ apply_gates n gates before → r.state.qubits ≡ n → r.end.qubits ≡ n
-    → shown_by r ≡ record { bits = []; state = before; outcomes = []; end_bits = []; end = end } → (IsZeroVector end → ⊥) → (Proportional end after → ⊥)
-    → IsJustified (gates_obligation n gates before after) (verdict.Refuted r)
-refuted_end n gates before after end r e state last shown nonzero apart =
-    refuted_by n gates before after r state last (shown ∙ ap (λ (v : List Amplitude). record { bits = []; state = before; outcomes = []; end_bits = []; end = v }) e)
+pub refuted_end : (n m : ℕ) (gates : List Gate) (before after end : List Amplitude) (r : Refutation) → end ≡ apply_gates n gates before → r.state.qubits ≡ n → r.end.qubits ≡ n
+    → shown_by r ≡ record { bits = zeros m; state = before; outcomes = []; end_bits = zeros m; end = end } → (IsZeroVector end → ⊥) → (Proportional end after → ⊥)
+    → IsJustified (gates_obligation n m gates before after) (verdict.Refuted r)
+refuted_end n m gates before after end r e state last shown nonzero apart =
+    refuted_by n m gates before after r state last (shown ∙ ap (λ (v : List Amplitude). record { bits = zeros m; state = before; outcomes = []; end_bits = zeros m; end = v }) e)
     (λ z. nonzero (subst IsZeroVector (sym e) z)) (λ p. apart (subst (λ (v : List Amplitude). Proportional v after) (sym e) p))
 
-pub verified_zero : (n : ℕ) (gates : List Gate) (before after end : List Amplitude) → end ≡ apply_gates n gates before → IsZeroVector end → IsJustified (gates_obligation n gates before after) verdict.Verified
-verified_zero n gates before after end e z = gates_alone_laws.zero n gates before after (subst IsZeroVector e z)
+pub verified_zero : (n m : ℕ) (gates : List Gate) (before after end : List Amplitude) → end ≡ apply_gates n gates before → IsZeroVector end → IsJustified (gates_obligation n m gates before after) verdict.Verified
+verified_zero n m gates before after end e z = gates_alone_laws.zero n m gates before after (subst IsZeroVector e z)
 
-pub verified_same : (n : ℕ) (gates : List Gate) (before after end : List Amplitude) → end ≡ apply_gates n gates before → Proportional end after → IsJustified (gates_obligation n gates before after) verdict.Verified
-verified_same n gates before after end e p = gates_alone_laws.proportional n gates before after (subst (λ (v : List Amplitude). Proportional v after) e p)
+pub verified_same : (n m : ℕ) (gates : List Gate) (before after end : List Amplitude) → end ≡ apply_gates n gates before → Proportional end after → IsJustified (gates_obligation n m gates before after) verdict.Verified
+verified_same n m gates before after end e p = gates_alone_laws.proportional n m gates before after (subst (λ (v : List Amplitude). Proportional v after) e p)
 
-pub gave_up_step : (n : ℕ) (gates : List Gate) (before after : List Amplitude) → WideStep n gates before → IsJustified (gates_obligation n gates before after) (verdict.GaveUp why.Width)
-gave_up_step n gates before after w = gates_alone_laws.wide_gate n gates before after w.step w.met w.wide
+pub gave_up_step : (n m : ℕ) (gates : List Gate) (before after : List Amplitude) → WideStep n gates before → IsJustified (gates_obligation n m gates before after) (verdict.GaveUp why.Width)
+gave_up_step n m gates before after w = gates_alone_laws.wide_gate n m gates before after w.step w.met w.wide
 
-pub gave_up_product : (n : ℕ) (gates : List Gate) (before after end : List Amplitude) → end ≡ apply_gates n gates before → WideProduct end after → IsJustified (gates_obligation n gates before after) (verdict.GaveUp why.Width)
-gave_up_product n gates before after end e w = gates_alone_laws.wide_product n gates before after w.left w.right (subst (λ (v : List Amplitude). Contains v w.left) e w.of_first) w.of_second w.wide
+pub gave_up_product : (n m : ℕ) (gates : List Gate) (before after end : List Amplitude) → end ≡ apply_gates n gates before → WideProduct end after → IsJustified (gates_obligation n m gates before after) (verdict.GaveUp why.Width)
+gave_up_product n m gates before after end e w = gates_alone_laws.wide_product n m gates before after w.left w.right (subst (λ (v : List Amplitude). Contains v w.left) e w.of_first) w.of_second w.wide
 
 -- the end of gates, along equal parts
 pub ended : (n m : ℕ) (gs hs : List Gate) (v w e : List Amplitude) → e ≡ apply_gates m hs w → m ≡ n → hs ≡ gs → w ≡ v → e ≡ apply_gates n gs v
@@ -188,6 +194,11 @@ told_nonzero v P h e p = let t : v ≡ true = h.1 p in cc
 pub compared : (u v x y : List Amplitude) (r : Ratio) → Compares x y r → x ≡ u → y ≡ v → Compares u v r
 compared u v x y r c e f = subst (λ (a : List Amplitude). Compares a v r) e (subst (λ (b : List Amplitude). Compares x b r) f c)
 
-pub shown_is : (r : Refutation) (state end : List Amplitude) → r.bits ≡ [] → r.state.amps ≡ state → r.outcomes ≡ [] → r.end_bits ≡ [] → r.end.amps ≡ end
-    → shown_by r ≡ record { bits = []; state = state; outcomes = []; end_bits = []; end = end }
-shown_is r state end a b c d e = λ i. record { bits = a i; state = b i; outcomes = c i; end_bits = d i; end = e i }
+pub shown_is : (r : Refutation) (m : ℕ) (state end : List Amplitude) → r.bits ≡ zeros m → r.state.amps ≡ state → r.outcomes ≡ [] → r.end_bits ≡ zeros m → r.end.amps ≡ end
+    → shown_by r ≡ record { bits = zeros m; state = state; outcomes = []; end_bits = zeros m; end = end }
+shown_is r m state end a b c d e = λ i. record { bits = a i; state = b i; outcomes = c i; end_bits = d i; end = e i }
+
+-- a body that is these gates owes what they owe
+pub justified_of : (n m : ℕ) (body : List Stmt) (gates : List Gate) (before after : List Amplitude) (v : Verdict) → body ≡ map stmt.Gate gates
+    → IsJustified (gates_obligation n m gates before after) v → IsJustified (plain_obligation n m body before after) v
+justified_of n m body gates before after v e j = subst (λ (b : List Stmt). IsJustified (plain_obligation n m b before after) v) (sym e) j

@@ -1,5 +1,5 @@
 -- How a run ends: what is written in the end, and why.
-use Rattle.std.specs.Prelude.{◌≡◌, ℕ, ◌<◌, ◌≤◌, false, List, [], ◌∷◌, length, Option, Some, None, IfSome, ◌⊎◌}
+use Rattle.std.specs.Prelude.{◌≡◌, ℕ, ◌<◌, ◌≤◌, true, false, List, [], ◌∷◌, length, Option, Some, None, IfSome, ◌⊎◌}
 use Rattle.aq_world.specs.Causes.{Rose, Blame}
 use Rattle.aq_world.specs.Held.{Held, bytes_at}
 use Rattle.aq_world.specs.Prints.{IsPrefixOf}
@@ -7,16 +7,19 @@ use Rattle.aq_obligations.specs.declared.kind.Kind.TheVariants as kind
 use Rattle.aq_report.specs.declared.verdict.Verdict.{Verdict}
 use Rattle.aq_report.specs.declared.verdict.Verdict.TheVariants as verdict
 use Rattle.aq_report.specs.Verdicts.{IsJustified}
-use Rattle.aq_report.specs.Texts.{report, Heading}
-use Rattle.aq_thin.specs.Programs.{IsThinProgram}
+use Rattle.aq_report.specs.Texts.{report}
+use Rattle.aq_prog.specs.declared.program.Program.{Program}
 use Rattle.aq_thin.specs.SetTexts.{IsThinSets}
-use Rattle.aq_thin.specs.declared.call.ThinCall.{ThinCall}
 use Rattle.aq_thin.specs.declared.term.ThinTerm.{ThinTerm}
+use Rattle.aq_elab.specs.Texts.{SaysProgram}
+use Rattle.aq_top.specs.Bodies.{are_gates}
+use Rattle.aq_top.specs.Faults.{HasProgramFault, fault_line, fault_status}
 use Rattle.aq_top.specs.Lines.{usage_text, program_too_long, program_unbuilt, sets_too_long, sets_unbuilt, memory_line, read_fault_line}
 use Rattle.aq_top.specs.Tasks.{Task, IsTask, obligation_of}
 use Rattle.aq_top.specs.Words.{CheckWords}
 use Rattle.aq_top.specs.declared.load.Stop.{Stop}
 use Rattle.aq_top.specs.declared.load.Stop.TheVariants as stop
+use Rattle.aq_top.specs.declared.program.ProgramFault.{ProgramFault}
 use Rattle.aq_top.specs.declared.status.Status.{Status}
 use Rattle.aq_top.specs.declared.status.Status.TheVariants as status
 
@@ -39,12 +42,12 @@ IsLonger told name most = IfSome told (λ held. most < length (bytes_at held nam
 abbrev pub ReadFailedOf : ℕ → ℕ → Blame → List ℕ → Type 0
 ReadFailedOf before now blame name = Rose before now × (blame ≡ record { name = name; keep = false })
 
--- the program's file was read, and is a thin program
-pub record ReadsProgram (told : Option Held) (name : List ℕ) (n : ℕ) (calls : List ThinCall) : Type 0 where
+-- the program's file was read, and says this program
+pub record ReadsProgram (told : Option Held) (name : List ℕ) (program : Program) : Type 0 where
   pub bytes : List ℕ
   pub held : MayHold told name bytes
   pub fits : length bytes ≤ most_program
-  pub thin : IsThinProgram bytes n calls
+  pub says : SaysProgram bytes program
 
 -- the sets' file was read, and is a thin set text for so many qubits
 pub record ReadsSets (told : Option Held) (name : List ℕ) (n : ℕ) (before after : List ThinTerm) : Type 0 where
@@ -53,22 +56,29 @@ pub record ReadsSets (told : Option Held) (name : List ℕ) (n : ℕ) (before af
   pub fits : length bytes ≤ most_sets
   pub thin : IsThinSets bytes n before after
 
--- both files were read, and say this
+-- both files were read, and say this, and the program has gates alone
 pub record ReadsTask (told : Option Held) (words : CheckWords) (t : Task) : Type 0 where
   pub program : List ℕ
   pub program_held : MayHold told words.program program
   pub program_fits : length program ≤ most_program
+  pub gates : are_gates t.program.body ≡ true
   pub sets : List ℕ
   pub sets_held : MayHold told words.sets sets
   pub sets_fit : length sets ≤ most_sets
   pub says : IsTask program sets t
 
--- the program's file was read and isn't thin
-pub record NotThinProgram (told : Option Held) (name : List ℕ) : Type 0 where
+-- the program's file was read, and has this fault
+pub record HasFault (told : Option Held) (name : List ℕ) (f : ProgramFault) : Type 0 where
   pub bytes : List ℕ
   pub held : MayHold told name bytes
   pub fits : length bytes ≤ most_program
-  pub not_thin : (n : ℕ) (calls : List ThinCall) → IsThinProgram bytes n calls → ⊥
+  pub fault : HasProgramFault bytes f
+
+-- the program's file was read, and says a program with a statement other than a gate
+pub record NotGatesAlone (told : Option Held) (name : List ℕ) : Type 0 where
+  pub program : Program
+  pub read : ReadsProgram told name program
+  pub other : are_gates program.body ≡ false
 
 -- the sets' file was read and isn't thin for so many qubits
 pub record NotThinSets (told : Option Held) (name : List ℕ) (n : ℕ) : Type 0 where
@@ -77,59 +87,65 @@ pub record NotThinSets (told : Option Held) (name : List ℕ) (n : ℕ) : Type 0
   pub fits : length bytes ≤ most_sets
   pub not_thin : (before after : List ThinTerm) → IsThinSets bytes n before after → ⊥
 
--- the program is thin, on some number of qubits for which this holds
+-- the program has gates alone, on some number of qubits for which this holds
 pub record BehindProgram (told : Option Held) (name : List ℕ) (P : ℕ → Type 0) : Type 0 where
-  pub qubits : ℕ
-  pub calls : List ThinCall
-  pub read : ReadsProgram told name qubits calls
-  pub then : P qubits
+  pub program : Program
+  pub read : ReadsProgram told name program
+  pub gates : are_gates program.body ≡ true
+  pub then : P program.qubits
 
--- Why a check stops before it judges. The program comes first: the sets' file is read only behind a thin program.
+-- Why a check stops before it judges. The program comes first: the sets' file is read only behind a program that has gates
+-- alone.
 abbrev pub HasCause : Option Held → (List ℕ → Type 0) → CheckWords → Stop → Type 0
-HasCause told ReadFailed words stop.ProgramFault = ReadFailed words.program
+HasCause told ReadFailed words stop.ProgramUnread = ReadFailed words.program
 HasCause told ReadFailed words stop.ProgramTooLong = IsLonger told words.program most_program
-HasCause told ReadFailed words stop.ProgramUnbuilt = NotThinProgram told words.program
-HasCause told ReadFailed words stop.SetsFault = ReadFailed words.sets
+HasCause told ReadFailed words (stop.ProgramRefused f) = HasFault told words.program f
+HasCause told ReadFailed words stop.ProgramUnbuilt = NotGatesAlone told words.program
+HasCause told ReadFailed words stop.SetsUnread = BehindProgram told words.program (λ n. ReadFailed words.sets)
 HasCause told ReadFailed words stop.SetsTooLong = BehindProgram told words.program (λ n. IsLonger told words.sets most_sets)
 HasCause told ReadFailed words stop.SetsUnbuilt = BehindProgram told words.program (λ n. NotThinSets told words.sets n)
 HasCause told ReadFailed words stop.Memory = Unit {0}
 
 -- why the program isn't read
 abbrev pub ProgramCause : Option Held → (List ℕ → Type 0) → List ℕ → Stop → Type 0
-ProgramCause told ReadFailed name stop.ProgramFault = ReadFailed name
+ProgramCause told ReadFailed name stop.ProgramUnread = ReadFailed name
 ProgramCause told ReadFailed name stop.ProgramTooLong = IsLonger told name most_program
-ProgramCause told ReadFailed name stop.ProgramUnbuilt = NotThinProgram told name
-ProgramCause told ReadFailed name stop.SetsFault = ⊥
+ProgramCause told ReadFailed name (stop.ProgramRefused f) = HasFault told name f
+ProgramCause told ReadFailed name stop.ProgramUnbuilt = NotGatesAlone told name
+ProgramCause told ReadFailed name stop.SetsUnread = ⊥
 ProgramCause told ReadFailed name stop.SetsTooLong = ⊥
 ProgramCause told ReadFailed name stop.SetsUnbuilt = ⊥
 ProgramCause told ReadFailed name stop.Memory = Unit {0}
 
 -- why the sets aren't read
 abbrev pub SetsCause : Option Held → (List ℕ → Type 0) → List ℕ → ℕ → Stop → Type 0
-SetsCause told ReadFailed name n stop.ProgramFault = ⊥
+SetsCause told ReadFailed name n stop.ProgramUnread = ⊥
 SetsCause told ReadFailed name n stop.ProgramTooLong = ⊥
+SetsCause told ReadFailed name n (stop.ProgramRefused f) = ⊥
 SetsCause told ReadFailed name n stop.ProgramUnbuilt = ⊥
-SetsCause told ReadFailed name n stop.SetsFault = ReadFailed name
+SetsCause told ReadFailed name n stop.SetsUnread = ReadFailed name
 SetsCause told ReadFailed name n stop.SetsTooLong = IsLonger told name most_sets
 SetsCause told ReadFailed name n stop.SetsUnbuilt = NotThinSets told name n
 SetsCause told ReadFailed name n stop.Memory = Unit {0}
 
 -- the line for it
 abbrev pub stop_text : CheckWords → Stop → List ℕ
-stop_text words stop.ProgramFault = read_fault_line words.program
+stop_text words stop.ProgramUnread = read_fault_line words.program
 stop_text words stop.ProgramTooLong = program_too_long
+stop_text words (stop.ProgramRefused f) = fault_line f
 stop_text words stop.ProgramUnbuilt = program_unbuilt
-stop_text words stop.SetsFault = read_fault_line words.sets
+stop_text words stop.SetsUnread = read_fault_line words.sets
 stop_text words stop.SetsTooLong = sets_too_long
 stop_text words stop.SetsUnbuilt = sets_unbuilt
 stop_text words stop.Memory = memory_line
 
 -- and its status
 abbrev pub stop_status : Stop → Status
-stop_status stop.ProgramFault = status.Read
+stop_status stop.ProgramUnread = status.Read
 stop_status stop.ProgramTooLong = status.Refused
+stop_status (stop.ProgramRefused f) = fault_status f
 stop_status stop.ProgramUnbuilt = status.Refused
-stop_status stop.SetsFault = status.Read
+stop_status stop.SetsUnread = status.Read
 stop_status stop.SetsTooLong = status.Refused
 stop_status stop.SetsUnbuilt = status.Refused
 stop_status stop.Memory = status.Memory

@@ -1,5 +1,5 @@
 -- What the parts of the judge find. Only the crate's own functions are stated by these.
-use Rattle.std.specs.Prelude.{◌≡◌, ℕ, List, Contains}
+use Rattle.std.specs.Prelude.{ℕ, List, Contains}
 use Rattle.aq_ring.specs.Fractions.{Amplitude}
 use Rattle.aq_ring.specs.Amplitudes.{FitsAmplitudeProduct}
 use Rattle.aq_ring.specs.Vectors.{IsZeroVector, Proportional}

@@ -1,5 +1,5 @@
 -- The texts that a run ends with, besides reports.
-use Rattle.std.specs.Prelude.{ℕ, List, [], ◌∷◌, ◌++◌, codes}
+use Rattle.std.specs.Prelude.{ℕ, List, ◌++◌, codes}
 use Rattle.aq_report.specs.Texts.{newline}
 
 unfoldable pub usage_text : List ℕ

@@ -1,34 +1,15 @@
--- What a thin program and thin sets ask to be judged.
-use Rattle.std.specs.Prelude.{◌≡◌, ℕ, zero, suc, pos, Bool, true, false, List, [], ◌∷◌, map, replicate, slice_set, Option, Some, None, codes, ◌^◌}
-use Rattle.std.specs.Option.{option_map_or}
+-- What a program and thin sets ask to be judged.
+use Rattle.std.specs.Prelude.{ℕ, Bool, true, false, List, [], ◌∷◌, replicate, slice_set, ◌^◌}
 use Rattle.aq_ring.specs.Fractions.{Amplitude}
 use Rattle.aq_ring.specs.Amplitudes.{amplitude_zero, amplitude_one, turn}
-use Rattle.aq_prog.specs.Table.{rows_named}
-use Rattle.aq_prog.specs.declared.gate.Entry.{Entry}
-use Rattle.aq_prog.specs.declared.gate.Entry.TheVariants as entry
-use Rattle.aq_prog.specs.declared.gate.Gate.{Gate}
-use Rattle.aq_prog.specs.declared.table.Rows.{Rows}
-use Rattle.aq_thin.specs.Programs.{name_text, IsThinProgram}
+use Rattle.aq_prog.specs.declared.program.Program.{Program}
 use Rattle.aq_thin.specs.SetTexts.{IsThinSets}
-use Rattle.aq_thin.specs.declared.call.ThinCall.{ThinCall}
-use Rattle.aq_thin.specs.declared.thin_program.ThinProgram.{ThinProgram}
 use Rattle.aq_thin.specs.declared.thin_sets.ThinSets.{ThinSets}
 use Rattle.aq_thin.specs.declared.term.ThinTerm.{ThinTerm}
+use Rattle.aq_elab.specs.Texts.{SaysProgram}
 use Rattle.aq_obligations.specs.Correct.{Annotated}
-use Rattle.aq_obligations.specs.GatesAlone.{gates_obligation, gates_program}
+use Rattle.aq_obligations.specs.GatesAlone.{plain_obligation, plain_program}
 use Rattle.aq_obligations.specs.Obligations.{Obligation}
-
-abbrev pub controls_of : Option ℕ → List ℕ
-controls_of None = []
-controls_of (Some control) = control ∷ []
-
--- the gate of a call: the matrix that the table of gates has under its name
-abbrev pub gate_of : ThinCall → Gate
-gate_of call = record {
-  controls = controls_of call.control;
-  target = call.target;
-  matrix = record { rows = option_map_or (λ (r : Rows). r.rows) (rows_named (name_text call.name) (pos 0)) [] };
-}
 
 -- the amplitude of a term: 1, or -1 with a minus
 abbrev pub sign_amplitude : Bool → Amplitude
@@ -46,24 +27,23 @@ bracket_vector n terms = placed (replicate (2 ^ n) amplitude_zero) terms
 
 -- a program and its two claims
 pub record Task : Type 0 where
-  pub qubits : ℕ
-  pub calls : List ThinCall
+  pub program : Program
   pub before : List ThinTerm
   pub after : List ThinTerm
 
 -- the two texts say this
 pub record IsTask (program sets : List ℕ) (t : Task) : Type 0 where
-  pub program_is : IsThinProgram program t.qubits t.calls
-  pub sets_are : IsThinSets sets t.qubits t.before t.after
+  pub program_is : SaysProgram program t.program
+  pub sets_are : IsThinSets sets t.program.qubits t.before t.after
 
--- what the task owes
+-- what the task owes, where its program has gates alone
 abbrev pub obligation_of : Task → Obligation
-obligation_of t = gates_obligation t.qubits (map gate_of t.calls) (bracket_vector t.qubits t.before) (bracket_vector t.qubits t.after)
+obligation_of t = plain_obligation t.program.qubits t.program.bits t.program.body (bracket_vector t.program.qubits t.before) (bracket_vector t.program.qubits t.after)
 
 -- the annotated program of the task
 abbrev pub program_of : Task → Annotated
-program_of t = gates_program t.qubits (map gate_of t.calls) (bracket_vector t.qubits t.before) (bracket_vector t.qubits t.after)
+program_of t = plain_program t.program.qubits t.program.bits t.program.body (bracket_vector t.program.qubits t.before) (bracket_vector t.program.qubits t.after)
 
 -- the task of a program and sets that were read
-abbrev pub task_of : ThinProgram → ThinSets → Task
-task_of p s = record { qubits = p.qubits; calls = p.calls; before = s.before; after = s.after }
+abbrev pub task_of : Program → ThinSets → Task
+task_of p s = record { program = p; before = s.before; after = s.after }

@@ -1,31 +1,21 @@
-ghost use Rattle.std.specs.Prelude.{◌≡◌, ◌<◌, ◌≤◌, ◌^◌, All, IfOk, OnOk, OnErr, length, map};
-ghost use Rattle.aq_prog.specs.Gates.{apply_gates, IsValidGate};
+ghost use Rattle.std.specs.Prelude.{◌≡◌, ◌<◌, ◌≤◌, ◌^◌, [], true, All, IfOk, length, map};
+ghost use Rattle.aq_prog.specs.Gates.{IsValidGate};
+ghost use Rattle.aq_obligations.specs.Correct.{zeros};
 ghost use Rattle.aq_report.specs.Verdicts.{IsJustified};
-ghost use Rattle.aq_top.specs.Judging.{WideStep, Compares};
-ghost use Rattle.aq_top.specs.Tasks.{gate_of, obligation_of, task_of};
+ghost use Rattle.aq_top.specs.Bodies.{are_gates, gates_in};
+ghost use Rattle.aq_top.specs.Judging.{Compares};
+ghost use Rattle.aq_top.specs.Tasks.{obligation_of, task_of};
 
-use crate::build::{gates_of, vector_of};
+use crate::body::play;
+use crate::build::{vector_of, zero_bits};
 use aq_label::{Ratio, ratio_of};
-use aq_plain::{Vector, WideSum, apply_plain};
-use aq_prog::Gate;
+use aq_plain::Vector;
+use aq_prog::Program;
 use aq_report::{Refutation, Verdict, Why};
 use aq_ring::Amp;
-use aq_thin::{ThinProgram, ThinSets};
+use aq_thin::ThinSets;
 use sqlite_items::Items;
 use std::alloc::{AllocError, Global};
-
-/// Plays gates one after the other.
-fn play(vector: &mut Vector, gates: &[Gate]) -> Result<(), WideSum>
-    requires { All (IsValidGate vector.old.qubits) gates.now }
-    ensures qubits { vector.new.qubits ≡ vector.old.qubits }
-    ensures amps { OnOk result (vector.new.amps ≡ apply_gates vector.old.qubits gates.now vector.old.amps) }
-    ensures wide { OnErr result (WideStep vector.old.qubits gates.now vector.old.amps) }
-{
-    for gate in gates {
-        apply_plain(vector, gate)?;
-    }
-    Ok(())
-}
 
 /// The entries of two vectors, pair by pair.
 fn pairs_of(alloc: Global, left: &[Amp], right: &[Amp]) -> Result<Vec<(Amp, Amp)>, AllocError>
@@ -52,32 +42,37 @@ fn compare(alloc: Global, left: &[Amp], right: &[Amp]) -> Result<Ratio, AllocErr
 ghost use Rattle.std.specs.Prelude.{[]};
 ghost use Rattle.aq_report.specs.Verdicts.{shown_by};
 
-/// The refutation by the end of the gates, without bits and outcomes.
-fn refutation(alloc: Global, state: Vector, end: Vector) -> Refutation
-    ensures state { result.state ≡ state }
-    ensures end { result.end ≡ end }
-    ensures bits { (result.bits ≡ []) × (result.outcomes ≡ []) × (result.end_bits ≡ []) }
+/// The refutation by the end of the gates. Each bit is 0 from the start to the end, and there are no outcomes.
+fn refutation(
+    alloc: Global,
+    bits: u32,
+    state: Vector,
+    end: Vector,
+) -> Result<Refutation, AllocError>
+    ensures state { IfOk result (λ r. r.state ≡ state) }
+    ensures end { IfOk result (λ r. r.end ≡ end) }
+    ensures bits { IfOk result (λ r. (r.bits ≡ zeros bits) × (r.outcomes ≡ []) × (r.end_bits ≡ zeros bits)) }
 {
-    Refutation {
-        bits: Items::new(alloc),
+    Ok(Refutation {
+        bits: zero_bits(alloc, bits)?,
         state,
         outcomes: Items::new(alloc),
-        end_bits: Items::new(alloc),
+        end_bits: zero_bits(alloc, bits)?,
         end,
-    }
+    })
 }
 
 /// Judges the program on the one vector of its precondition.
-fn try_judge(alloc: Global, program: &ThinProgram, sets: &ThinSets) -> Result<Verdict, AllocError>
+fn try_judge(alloc: Global, program: &Program, sets: &ThinSets) -> Result<Verdict, AllocError>
     requires few { program.now.qubits ≤ 16 }
-    requires gates { All (IsValidGate program.now.qubits) (map gate_of program.now.calls) }
+    requires gates { are_gates program.now.body ≡ true }
+    requires valid { All (IsValidGate program.now.qubits) (gates_in program.now.body) }
     requires before { All (λ t. t.index < 2 ^ program.now.qubits) sets.now.before }
     requires after { All (λ t. t.index < 2 ^ program.now.qubits) sets.now.after }
     ensures { IfOk result (λ v. IsJustified (obligation_of (task_of program.now sets.now)) v) }
 {
-    let gates = gates_of(alloc, program.calls.as_slice())?;
     let mut end = vector_of(alloc, program.qubits, sets.before.as_slice())?;
-    if play(&mut end, gates.as_slice()).is_err() {
+    if play(&mut end, program.body.as_slice()).is_err() {
         return Ok(Verdict::GaveUp(Why::Width));
     }
     if end.is_zero() {
@@ -90,15 +85,17 @@ fn try_judge(alloc: Global, program: &ThinProgram, sets: &ThinSets) -> Result<Ve
         Ratio::Wide { .. } => Ok(Verdict::GaveUp(Why::Width)),
         Ratio::Different { .. } => {
             let state = vector_of(alloc, program.qubits, sets.before.as_slice())?;
-            Ok(Verdict::Refuted(refutation(alloc, state, end)))
+            let refutation = refutation(alloc, program.bits, state, end)?;
+            Ok(Verdict::Refuted(refutation))
         }
     }
 }
 
-/// Judges the program. The verdict is justified; it is given up for memory where that is wanting.
-pub(crate) fn judge(alloc: Global, program: &ThinProgram, sets: &ThinSets) -> Verdict
+/// Judges a program that has gates alone. The verdict is justified; it is given up for memory where that is wanting.
+pub(crate) fn judge(alloc: Global, program: &Program, sets: &ThinSets) -> Verdict
     requires few { program.now.qubits ≤ 16 }
-    requires gates { All (IsValidGate program.now.qubits) (map gate_of program.now.calls) }
+    requires gates { are_gates program.now.body ≡ true }
+    requires valid { All (IsValidGate program.now.qubits) (gates_in program.now.body) }
     requires before { All (λ t. t.index < 2 ^ program.now.qubits) sets.now.before }
     requires after { All (λ t. t.index < 2 ^ program.now.qubits) sets.now.after }
     ensures { IsJustified (obligation_of (task_of program.now sets.now)) result }

@@ -1,10 +1,13 @@
 //! The top call: it does what the words say, over a shelf of files and a sink for the output.
 #![tactic(auto)]
 
+mod body;
 mod build;
 mod honest;
 mod judge;
 mod load;
+mod program;
+mod refuse;
 mod say;
 mod status;
 mod top;

@@ -1,11 +1,14 @@
-ghost use Rattle.std.specs.Prelude.{◌≡◌, ℕ, List, ◌≤◌, ◌<◌, length, All, map, IfOk, IfErr, ◌^◌};
-ghost use Rattle.aq_world.specs.Causes.{Rose, Blame};
-ghost use Rattle.aq_prog.specs.Gates.{IsValidGate};
+ghost use Rattle.std.specs.Prelude.{◌≡◌, ◌≤◌, ◌<◌, ◌^◌, true, All, IfOk, IfErr};
+ghost use Rattle.aq_prog.specs.Programs.{IsValidProgram};
+ghost use Rattle.aq_top.specs.Bodies.{are_gates};
 ghost use Rattle.aq_top.specs.Ends.{ReadFailedOf, ReadsProgram, ReadsSets, ReadsTask, HasCause, ProgramCause, SetsCause};
-ghost use Rattle.aq_top.specs.Tasks.{gate_of, task_of};
+ghost use Rattle.aq_top.specs.Tasks.{task_of};
 ghost use Rattle.aq_top.specs.Words.{files};
 
-use aq_thin::{ThinFault, ThinProgram, ThinSets, read_program, read_sets};
+use crate::body::are_gates;
+use crate::program::{ProgramFault, read_program};
+use aq_prog::Program;
+use aq_thin::{ThinFault, ThinSets, read_sets};
 use aq_world::{ReadFault, Shelf};
 use std::alloc::Global;
 
@@ -16,35 +19,45 @@ const MOST_PROGRAM: u64 = 1_048_576;
 const MOST_SETS: u64 = 4_194_304;
 
 /// Why a check stops before it judges.
-#[derive(Clone, Copy, Debug, PartialEq, Eq)]
+#[derive(Debug, Drop)]
 pub enum Stop {
-    ProgramFault,
+    ProgramUnread,
     ProgramTooLong,
+    /// The program's text says no program.
+    ProgramRefused(ProgramFault),
+    /// The program has a statement other than a gate.
     ProgramUnbuilt,
-    SetsFault,
+    SetsUnread,
     SetsTooLong,
     SetsUnbuilt,
     Memory,
 }
 
-/// Reads the program.
+/// Reads a program that has gates alone.
 pub(crate) fn load_program<S: Shelf>(
     alloc: Global,
     name: &str,
     shelf: &mut S,
-) -> Result<ThinProgram, Stop>
-    ensures read { IfOk result (λ p. ReadsProgram (S.holds shelf.old) name.now p.qubits p.calls) }
+) -> Result<Program, Stop>
+    ensures read { IfOk result (ReadsProgram (S.holds shelf.old) name.now) }
+    ensures gates { IfOk result (λ p. are_gates p.body ≡ true) }
+    ensures valid { IfOk result IsValidProgram }
     ensures cause { IfErr result (ProgramCause (S.holds shelf.old) (ReadFailedOf (S.faults shelf.old) (S.faults shelf.new) (S.blame shelf.new)) name.now) }
     ensures later { S.faults shelf.old ≤ S.faults shelf.new }
     ensures held { S.holds shelf.new ≡ S.holds shelf.old }
 {
     match shelf.read(name, MOST_PROGRAM) {
         Ok(bytes) => match read_program(alloc, bytes.as_slice()) {
-            Ok(program) => Ok(program),
-            Err(ThinFault::NotThin) => Err(Stop::ProgramUnbuilt),
-            Err(ThinFault::Memory) => Err(Stop::Memory),
+            Ok(program) => {
+                if are_gates(program.body.as_slice()) {
+                    Ok(program)
+                } else {
+                    Err(Stop::ProgramUnbuilt)
+                }
+            }
+            Err(fault) => Err(Stop::ProgramRefused(fault)),
         },
-        Err(ReadFault::Failed) => Err(Stop::ProgramFault),
+        Err(ReadFault::Failed) => Err(Stop::ProgramUnread),
         Err(ReadFault::TooLong(_)) => Err(Stop::ProgramTooLong),
         Err(ReadFault::Memory) => Err(Stop::Memory),
     }
@@ -71,7 +84,7 @@ pub(crate) fn load_sets<S: Shelf>(
             Err(ThinFault::NotThin) => Err(Stop::SetsUnbuilt),
             Err(ThinFault::Memory) => Err(Stop::Memory),
         },
-        Err(ReadFault::Failed) => Err(Stop::SetsFault),
+        Err(ReadFault::Failed) => Err(Stop::SetsUnread),
         Err(ReadFault::TooLong(_)) => Err(Stop::SetsTooLong),
         Err(ReadFault::Memory) => Err(Stop::Memory),
     }
@@ -80,11 +93,11 @@ pub(crate) fn load_sets<S: Shelf>(
 /// A program and sets that were read for each other.
 #[derive(Debug, Drop)]
 pub(crate) struct Loaded {
-    pub(crate) program: ThinProgram,
+    pub(crate) program: Program,
     pub(crate) sets: ThinSets,
 }
 
-/// Reads the program and then, behind a thin program, the sets.
+/// Reads the program and then, behind a program that has gates alone, the sets.
 pub(crate) fn load<S: Shelf>(
     alloc: Global,
     program: &str,
@@ -92,8 +105,8 @@ pub(crate) fn load<S: Shelf>(
     shelf: &mut S,
 ) -> Result<Loaded, Stop>
     ensures read { IfOk result (λ l. ReadsTask (S.holds shelf.old) (files program.now sets.now) (task_of l.program l.sets)) }
-    ensures few { IfOk result (λ l. l.program.qubits ≤ 16) }
-    ensures gates { IfOk result (λ l. All (IsValidGate l.program.qubits) (map gate_of l.program.calls)) }
+    ensures gates { IfOk result (λ l. are_gates l.program.body ≡ true) }
+    ensures valid { IfOk result (λ l. IsValidProgram l.program) }
     ensures before { IfOk result (λ l. All (λ t. t.index < 2 ^ l.program.qubits) l.sets.before) }
     ensures after { IfOk result (λ l. All (λ t. t.index < 2 ^ l.program.qubits) l.sets.after) }
     ensures cause { IfErr result (HasCause (S.holds shelf.old) (ReadFailedOf (S.faults shelf.old) (S.faults shelf.new) (S.blame shelf.new)) (files program.now sets.now)) }

@@ -5,9 +5,10 @@ ghost use Rattle.aq_world.specs.Prints.{Prints};
 ghost use Rattle.aq_top.specs.Said.{Said, status_of};
 ghost use Rattle.aq_top.specs.Words.{files};
 ghost use Rattle.aq_top.specs.Ends.{stop_text, stop_status, post_report, verdict_status};
-ghost use Rattle.aq_top.specs.Lines.{usage_text, program_too_long, program_unbuilt, sets_too_long, sets_unbuilt, memory_line, read_fault_line};
+ghost use Rattle.aq_top.specs.Lines.{usage_text, program_too_long, program_unbuilt, sets_too_long, sets_unbuilt, read_fault_line};
 
 use crate::load::Stop;
+use crate::refuse::{fault_status, print_memory, print_program_fault};
 use crate::status::Status;
 use aq_obligations::Kind;
 use aq_report::{Verdict, print_summary, print_verdict};
@@ -89,32 +90,27 @@ fn print_sets_unbuilt<K: Sink>(out: &mut K) -> Result<(), SinkFault>
     put_text(out, b"refused: sets: Unbuilt\n")
 }
 
-#[tactic(auto, unfolding(crate::specs::Lines::memory_line))]
-fn print_memory<K: Sink>(out: &mut K) -> Result<(), SinkFault>
-    ensures { Prints (K.told out.old) (K.told out.new) (K.faults out.old) (K.faults out.new) result memory_line }
-{
-    put_text(out, b"out of memory\n")
-}
-
-fn print_stop<K: Sink>(out: &mut K, program: &str, sets: &str, stop: Stop) -> Result<(), SinkFault>
-    ensures { Prints (K.told out.old) (K.told out.new) (K.faults out.old) (K.faults out.new) result (stop_text (files program.now sets.now) stop) }
+fn print_stop<K: Sink>(out: &mut K, program: &str, sets: &str, stop: &Stop) -> Result<(), SinkFault>
+    ensures { Prints (K.told out.old) (K.told out.new) (K.faults out.old) (K.faults out.new) result (stop_text (files program.now sets.now) stop.now) }
 {
     match stop {
-        Stop::ProgramFault => print_read_fault(out, program),
+        Stop::ProgramUnread => print_read_fault(out, program),
         Stop::ProgramTooLong => print_program_too_long(out),
+        Stop::ProgramRefused(fault) => print_program_fault(out, fault),
         Stop::ProgramUnbuilt => print_program_unbuilt(out),
-        Stop::SetsFault => print_read_fault(out, sets),
+        Stop::SetsUnread => print_read_fault(out, sets),
         Stop::SetsTooLong => print_sets_too_long(out),
         Stop::SetsUnbuilt => print_sets_unbuilt(out),
         Stop::Memory => print_memory(out),
     }
 }
 
-fn stop_status(stop: Stop) -> Status
-    ensures { result ≡ stop_status stop }
+fn stop_status(stop: &Stop) -> Status
+    ensures { result ≡ stop_status stop.now }
 {
     match stop {
-        Stop::ProgramFault | Stop::SetsFault => Status::Read,
+        Stop::ProgramUnread | Stop::SetsUnread => Status::Read,
+        Stop::ProgramRefused(fault) => fault_status(fault),
         Stop::ProgramTooLong | Stop::ProgramUnbuilt | Stop::SetsTooLong | Stop::SetsUnbuilt =>
             Status::Refused,
         Stop::Memory => Status::Memory,
@@ -122,8 +118,8 @@ fn stop_status(stop: Stop) -> Status
 }
 
 /// Says why a check stops before it judges.
-pub(crate) fn say_stop<K: Sink>(out: &mut K, program: &str, sets: &str, stop: Stop) -> Status
-    ensures said { (written : List ℕ) × Appends (K.told out.old) (K.told out.new) written × Said (Rose (K.faults out.old) (K.faults out.new)) (stop_status stop) (stop_text (files program.now sets.now) stop) result written }
+pub(crate) fn say_stop<K: Sink>(out: &mut K, program: &str, sets: &str, stop: &Stop) -> Status
+    ensures said { (written : List ℕ) × Appends (K.told out.old) (K.told out.new) written × Said (Rose (K.faults out.old) (K.faults out.new)) (stop_status stop.now) (stop_text (files program.now sets.now) stop.now) result written }
 {
     status_after(print_stop(out, program, sets, stop), stop_status(stop))
 }

@@ -45,7 +45,7 @@ fn check<S: Shelf, K: Sink>(
             let verdict = judge(alloc, &loaded.program, &loaded.sets);
             say_report(out, &verdict)
         }
-        Err(stop) => say_stop(out, program, sets, stop),
+        Err(stop) => say_stop(out, program, sets, &stop),
     }
 }
 

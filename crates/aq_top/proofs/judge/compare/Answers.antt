@@ -1,4 +1,4 @@
-use Rattle.std.proofs.Common.{◌≡◌, ℕ, List, sym, ◌∙◌, ap, map}
+use Rattle.std.proofs.Common.{List, ◌∙◌, ap, map}
 use Rattle.aq_ring.specs.Fractions.{Amplitude}
 use Rattle.aq_top.proofs.JudgeLemmas.{compares}
 use Rattle.aq_top.proofs.judge.compare.Goals as goal

@@ -1,4 +1,4 @@
-use Rattle.std.proofs.Common.{◌≡◌, ℕ, List, subst}
+use Rattle.std.proofs.Common.{ℕ, List, subst}
 use Rattle.aq_thin.specs.SetTexts.{IsThinSets}
 use Rattle.aq_thin.specs.declared.term.ThinTerm.{ThinTerm}
 use Rattle.aq_top.proofs.load.load_sets.Goals as goal

@@ -1,4 +1,4 @@
-use Rattle.std.proofs.Common.{◌≡◌, ℕ, List, ◌∙◌, ap, Err}
+use Rattle.std.proofs.Common.{◌∙◌, ap, Err}
 use Rattle.std.proofs.lemmas.Result.{err_from_is_err_and}
 use Rattle.aq_world.proofs.PrintsLemmas.{Prints-then, Prints-stops}
 use Rattle.aq_top.proofs.SayLemmas.{post_report_is}

@@ -1,0 +1,40 @@
+//! Programs from their texts.
+ghost use Rattle.std.specs.Prelude.{◌≡◌, ◌≤◌, length, All, IfOk, IfErr};
+ghost use Rattle.aq_prog.specs.Programs.{IsValidProgram, IsWritten};
+ghost use Rattle.aq_elab.specs.Texts.{SaysProgram};
+ghost use Rattle.aq_top.specs.Faults.{HasProgramFault};
+
+use aq_elab::{ElabFault, elaborate};
+use aq_lex::{LexFault, tokens};
+use aq_parse::{ParseFault, parse};
+use aq_prog::Program;
+use std::alloc::Global;
+
+/// Why a text says no program: the first fault of its tokens, of their tree, or of its meaning.
+#[derive(Debug, Drop)]
+pub enum ProgramFault {
+    Lex(LexFault),
+    Parse(ParseFault),
+    Elab(ElabFault),
+}
+
+/// The program that a text says, or the first fault of the text.
+pub(crate) fn read_program(alloc: Global, source: &[u8]) -> Result<Program, ProgramFault>
+    requires { length source.now ≤ 1048576 }
+    ensures says { IfOk result (SaysProgram source.now) }
+    // Its numbers are in range, and it has no assumption.
+    ensures valid { IfOk result IsValidProgram }
+    ensures written { IfOk result (λ p. All IsWritten p.body) }
+    ensures fault { IfErr result (HasProgramFault source.now) }
+{
+    match tokens(alloc, source) {
+        Ok(tokens) => match parse(alloc, &tokens) {
+            Ok(tree) => match elaborate(alloc, &tree) {
+                Ok(program) => Ok(program),
+                Err(fault) => Err(ProgramFault::Elab(fault)),
+            },
+            Err(fault) => Err(ProgramFault::Parse(fault)),
+        },
+        Err(fault) => Err(ProgramFault::Lex(fault)),
+    }
+}
