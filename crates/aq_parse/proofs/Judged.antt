@@ -172,11 +172,12 @@ no_other deep ts rest k e g tree l = absurd (no_whole deep tree ts (k, rest) l g
 fault_at : (deep : ℕ) (ts rest : List Piece) (k l : Fault) → k ≡ l → whole_at deep ts ≡ Err (k, rest) → IsFault deep ts l rest
 fault_at deep ts rest k l e g = subst (λ (c : Fault). IsFault deep ts c rest) e (stopped_is deep ts rest k g)
 
-pub tree_fault : (deep : ℕ) (ts rest : List Piece) (k : Fault) (e : ParseFault) → whole_at deep ts ≡ Err (k, rest) → Tells e k rest → FaultOf deep e ts
-tree_fault deep ts rest k (told.Unexpected at token) g t = (rest, fault_at deep ts rest k faults.Unexpected t.0 g, t.1, t.2)
-tree_fault deep ts rest k (told.NotTaken at word) g t = (rest, fault_at deep ts rest k faults.NotTaken t.0 g, t.1, t.2)
-tree_fault deep ts rest k (told.TooDeep at) g t = (rest, fault_at deep ts rest k faults.TooDeep t.0 g, t.1)
-tree_fault deep ts rest k told.Memory g t = tt
+pub tree_fault : (deep : ℕ) (ts rest : List Piece) (k : Fault) (e : ParseFault) → EndsInEnd ts → whole_at deep ts ≡ Err (k, rest) → Tells e k rest → FaultOf deep e ts
+tree_fault deep ts [] k e ends g t = absurd ((stopped_is deep ts [] k g).has_token ends refl)
+tree_fault deep ts (u ∷ more) k (told.Unexpected at token) ends g t = (u, more, fault_at deep ts (u ∷ more) k faults.Unexpected t.0 g, t.1, t.2)
+tree_fault deep ts (u ∷ more) k (told.NotTaken at word) ends g t = (u, more, fault_at deep ts (u ∷ more) k faults.NotTaken t.0 g, t.1, t.2)
+tree_fault deep ts (u ∷ more) k (told.TooDeep at) ends g t = (u, more, fault_at deep ts (u ∷ more) k faults.TooDeep t.0 g, t.1)
+tree_fault deep ts (u ∷ more) k told.Memory ends g t = tt
 
 -- ---- each list has one answer
 

@@ -11,8 +11,8 @@ use Rattle.aq_grammar.proofs.Stops.{Sinks, never-Sinks, seen-Sinks, FaultNext, m
 use Rattle.aq_parse.specs.Places.{Nowhere, BadLibrary, BadVersion}
 use Rattle.aq_parse.specs.Piece.{Piece}
 use Rattle.aq_parse.specs.Tokens.{sort_of, shows, is_mark, begins, begins_name, begins_number, begins_note, shows_name, shows_number, shows_note, IsMark, mark_at, IsName, IsNumber, number_of, IsPi, is_pi, IsValue, IsNote, note_of, note_at, place_of, taken_if, version_in, version_of, three_at, library_in, library_of, library_at}
-use Rattle.aq_parse.specs.Grammar.{IsVersion, IsSize, IsSpot, IsSpots, IsSource, IsTarget, IsDivisor, IsSign, Amount, IsAngle, IsAngled, IsTest, IsHead, listed, MaybeSpots, Simple}
-use Rattle.aq_parse.specs.Reading.{size_at, spot_of, spot_at, spots_at, source_at, target_at, divisor_at, turn_at, times_turn_at, counted_of, turn_of, counted_at, amount_at, sign_at, angle_of, angle_at, angled_at, clear_of, equal_of, equals_at, clear_at, equal_at, test_at, head_at, include_of, include_at, qubit_of, qubit_at, register_at, qreg_of, qreg_at, creg_of, creg_at, bit_of, bit_at, measure_of, measure_at, reset_of, reset_at, maybe_spots_at, barrier_of, barrier_at, Tail, assigns, assign_tail_at, call_tail_at, named_of, named_at, start_of, start_in, simple_by, simple_at, notes_at, version_at, forgotten, maybe_version_at}
+use Rattle.aq_parse.specs.Grammar.{IsVersion, IsSize, IsSpot, IsSpots, IsSource, IsTarget, IsDivisor, IsSign, Amount, IsAngle, IsAngled, IsTest, IsHead, MaybeSpots, Simple}
+use Rattle.aq_parse.specs.Reading.{size_at, spot_of, spot_at, spots_at, source_at, target_at, divisor_at, turn_at, times_turn_at, counted_of, turn_of, counted_at, amount_at, sign_at, angle_of, angle_at, angled_at, clear_of, equal_of, equals_at, clear_at, equal_at, test_at, head_at, include_of, include_at, qubit_of, qubit_at, register_at, qreg_of, qreg_at, creg_of, creg_at, bit_of, bit_at, measure_of, measure_at, reset_of, reset_at, listed, maybe_spots_at, barrier_of, barrier_at, Tail, assigns, assign_tail_at, call_tail_at, named_of, named_at, start_of, start_in, simple_by, simple_at, notes_at, version_at, forgotten, maybe_version_at}
 use Rattle.aq_parse.specs.declared.mark.Mark.{Mark}
 use Rattle.aq_parse.specs.declared.mark.Mark.TheVariants as marks
 use Rattle.aq_parse.specs.declared.lexeme.Sort.{Sort}

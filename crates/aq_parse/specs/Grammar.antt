@@ -81,10 +81,6 @@ pub data IsTest : Test → List Piece → Type 0 where
 abbrev pub IsHead : Mark → Test → List Piece → Type 0
 IsHead word test = IsMark word ⨾ IsMark marks.ParenOpen ⨾ IsTest test ⨾ IsMark marks.ParenClose
 
-abbrev pub listed : {A : Type 0} → Option (List A) → List A
-listed (Some xs) = xs
-listed None = []
-
 -- [ spot { "," spot } ]
 abbrev pub MaybeSpots : List Spot → List Piece → Type 0
 MaybeSpots [] front = front ≡ []

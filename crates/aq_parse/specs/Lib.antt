@@ -1,7 +1,6 @@
 pub mod Piece
 pub mod Words
 pub mod Pieces
-pub mod Notes
 pub mod Tokens
 pub mod Grammar
 pub mod Reading

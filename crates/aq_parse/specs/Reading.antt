@@ -5,7 +5,7 @@ use Rattle.aq_lex.specs.declared.place.Place.{Place}
 use Rattle.aq_grammar.specs.Readers.{Reader, ◌>>=◌, both, mapped, after, before, switch, choice, optional, many, separated, then_maybe, placed, refuse}
 use Rattle.aq_parse.specs.Piece.{Piece}
 use Rattle.aq_parse.specs.Tokens.{sort_of, begins, begins_name, begins_number, begins_note, place_of, mark_at, name_at, number_at, pi_at, value_at, three_at, library_at, note_at, end_at}
-use Rattle.aq_parse.specs.Grammar.{or_one, listed}
+use Rattle.aq_parse.specs.Grammar.{or_one}
 use Rattle.aq_parse.specs.declared.mark.Mark.{Mark}
 use Rattle.aq_parse.specs.declared.mark.Mark.TheVariants as marks
 use Rattle.aq_parse.specs.declared.lexeme.Sort.{Sort}
@@ -167,6 +167,11 @@ reset_of s = nodes.Reset s
 
 unfoldable pub reset_at : Read Node
 reset_at = mapped reset_of (after (mark_at marks.Reset) (before spot_at (mark_at marks.Semicolon)))
+
+-- what may be left out, as a list
+abbrev pub listed : {A : Type 0} → Option (List A) → List A
+listed (Some xs) = xs
+listed None = []
 
 unfoldable pub maybe_spots_at : Read (List Spot)
 maybe_spots_at = mapped listed (optional begins_name spots_at)

@@ -4,7 +4,7 @@ use Rattle.aq_grammar.specs.Words.{IsOne, IsToken}
 use Rattle.aq_grammar.specs.Readers.{Reader, one_at, token_at, see_at}
 use Rattle.aq_lex.specs.declared.place.Place.{Place}
 use Rattle.aq_parse.specs.Words.{is_three, is_stdgates}
-use Rattle.aq_parse.specs.Notes.{note_name, note_rest}
+use Rattle.aq_lex.specs.Notes.{note_name, note_rest}
 use Rattle.aq_parse.specs.declared.tree.Word.{Word}
 use Rattle.aq_parse.specs.declared.tree.Note.{Note}
 use Rattle.aq_parse.specs.Piece.{Piece}

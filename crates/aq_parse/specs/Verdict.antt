@@ -45,11 +45,12 @@ abbrev pub text_of : Option Piece → List ℕ
 text_of None = []
 text_of (Some t) = t.text
 
--- Why a list gave no tree: its first fault, with the place and the text of its token. For want of memory there need be none.
+-- Why a list gave no tree: its first fault, which stands at a token of the list, with the place and the text of that token.
+-- For want of memory there need be none.
 abbrev pub FaultOf : ℕ → ParseFault → List Piece → Type 0
-FaultOf deep (told.Unexpected at token) ts = (rest : List Piece) × IsFault deep ts faults.Unexpected rest × (at ≡ place_of (first rest)) × (token ≡ text_of (first rest))
-FaultOf deep (told.NotTaken at word) ts = (rest : List Piece) × IsFault deep ts faults.NotTaken rest × (at ≡ place_of (first rest)) × (word ≡ text_of (first rest))
-FaultOf deep (told.TooDeep at) ts = (rest : List Piece) × IsFault deep ts faults.TooDeep rest × (at ≡ place_of (first rest))
+FaultOf deep (told.Unexpected at token) ts = (t : Piece) × (more : List Piece) × IsFault deep ts faults.Unexpected (t ∷ more) × (at ≡ t.at) × (token ≡ t.text)
+FaultOf deep (told.NotTaken at word) ts = (t : Piece) × (more : List Piece) × IsFault deep ts faults.NotTaken (t ∷ more) × (at ≡ t.at) × (word ≡ t.text)
+FaultOf deep (told.TooDeep at) ts = (t : Piece) × (more : List Piece) × IsFault deep ts faults.TooDeep (t ∷ more) × (at ≡ t.at)
 FaultOf deep told.Memory ts = Unit {0}
 
 -- this tree, unless memory ran out

@@ -1,6 +1,7 @@
 ghost use Rattle.std.specs.Prelude.{◌≡◌, ◌<◌, IfOk, Some, length, slice_get};
 ghost use Rattle.aq_lex.specs.declared.token.Token.{Token};
 ghost use Rattle.aq_parse.specs.Pieces.{sign_mark, sort_at, piece, piece_of, pieces};
+ghost use Rattle.aq_parse.specs.Verdict.{EndsInEnd};
 
 use crate::lexeme::{Lexeme, Sort};
 use crate::mark::Mark;
@@ -66,12 +67,13 @@ fn lexeme_at<'a>(tokens: &'a Tokens<'_>, i: usize) -> Lexeme<'a>
     make_lexeme(tokens.list()[i], tokens.text(i))
 }
 
-/// The tokens as the grammar sees them.
+/// The tokens as the grammar sees them, up to the end of the text.
 pub(crate) fn lexemes<'a>(
     alloc: Global,
     tokens: &'a Tokens<'_>,
 ) -> Result<Vec<Lexeme<'a>>, AllocError>
-    ensures { IfOk result (λ list. list.items ≡ pieces tokens.now) }
+    ensures pieces { IfOk result (λ list. list.items ≡ pieces tokens.now) }
+    ensures ends { IfOk result (λ list. EndsInEnd list.items) }
 {
     let mut list = Vec::new(alloc);
     for i in 0..tokens.list().len() {

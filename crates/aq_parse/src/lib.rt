@@ -6,7 +6,6 @@ mod laws;
 mod lexeme;
 mod lexemes;
 mod mark;
-mod notes;
 mod parser;
 mod parts;
 mod reader;

@@ -1,7 +1,7 @@
 ghost use Rattle.std.specs.Prelude.{◌≡◌, IfOk, IfErr};
 ghost use Rattle.aq_parse.specs.Pieces.{pieces};
 ghost use Rattle.aq_parse.specs.Grammar.{IsProgram};
-ghost use Rattle.aq_parse.specs.Verdict.{FaultOf, GivesTree, Tells, text_of};
+ghost use Rattle.aq_parse.specs.Verdict.{EndsInEnd, FaultOf, GivesTree, Tells, text_of};
 ghost use Rattle.aq_grammar.specs.Words.{first};
 ghost use Rattle.aq_parse.specs.declared.tree.Tree.{Tree};
 
@@ -63,6 +63,7 @@ fn told<'a>(alloc: Global, fault: Fault, rest: &'a [Lexeme<'a>]) -> ParseFault
 }
 
 fn tree_of_list<'a>(alloc: Global, list: &'a [Lexeme<'a>]) -> Result<Tree, ParseFault>
+    requires { EndsInEnd list.now }
     ensures tree { IfOk result (λ tree. IsProgram 64 tree list.now) }
     ensures only { (tree : Tree) → IsProgram 64 tree list.now → GivesTree result tree }
     ensures fault { IfErr result (λ e. FaultOf 64 e list.now) }
@@ -80,7 +81,7 @@ pub fn parse(alloc: Global, tokens: &Tokens<'_>) -> Result<Tree, ParseFault>
     ensures tree { IfOk result (λ tree. IsProgram 64 tree (pieces tokens.now)) }
     // Tokens that have a tree give it, unless memory runs out; so they have one at most.
     ensures only { (tree : Tree) → IsProgram 64 tree (pieces tokens.now) → GivesTree result tree }
-    // A fault is the first one, with the place and the text of its token.
+    // A fault is the first one; it stands at a token, and has its place and its text.
     ensures fault { IfErr result (λ e. FaultOf 64 e (pieces tokens.now)) }
 {
     let list = lexemes(alloc, tokens)?;

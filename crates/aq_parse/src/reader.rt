@@ -6,11 +6,10 @@ ghost use Rattle.aq_parse.specs.Reading.{start_of, opening_of};
 
 use crate::lexeme::{Lexeme, Sort};
 use crate::mark::Mark;
-use crate::notes::{name_of_note, rest_of_note};
 use crate::tree::{Note, Word};
 use crate::words::{is_library, is_version_three};
 use aq_grammar::Stop;
-use aq_lex::{Place, Text};
+use aq_lex::{Place, Text, note_parts};
 use sqlite_items::Items;
 use std::alloc::Global;
 
@@ -281,9 +280,10 @@ pub(crate) fn note<'a>(
 {
     if let Some((token, rest)) = tokens.split_first() {
         if let Sort::Note = token.sort {
-            let text = Text::from_slice(alloc, name_of_note(token.text))?;
+            let parts = note_parts(token.text);
+            let text = Text::from_slice(alloc, parts.name)?;
             let name = Word { text, at: token.at };
-            let after = Text::from_slice(alloc, rest_of_note(token.text))?;
+            let after = Text::from_slice(alloc, parts.rest)?;
             return Ok((Note { name, rest: after }, rest));
         }
     }

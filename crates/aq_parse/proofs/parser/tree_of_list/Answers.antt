@@ -11,4 +11,4 @@ pub returns-in-Err-At-clause-only : goal.returns-in-Err-At-clause-only
 returns-in-Err-At-clause-only c = no_other 64 c.args.list.now c.in-Err-At.rest.now c.in-Err-At.fault c.told.result (rw c.in-Err-At.field-0-is at c.in-Err-At.ensures)
 
 pub returns-in-Err-At-clause-fault : goal.returns-in-Err-At-clause-fault
-returns-in-Err-At-clause-fault c = tree_fault 64 c.args.list.now c.in-Err-At.rest.now c.in-Err-At.fault c.told.result (rw c.in-Err-At.field-0-is at c.in-Err-At.ensures) c.told.ensures
+returns-in-Err-At-clause-fault c = tree_fault 64 c.args.list.now c.in-Err-At.rest.now c.in-Err-At.fault c.told.result c.requires (rw c.in-Err-At.field-0-is at c.in-Err-At.ensures) c.told.ensures
