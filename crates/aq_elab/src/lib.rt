@@ -14,6 +14,8 @@ mod recipe;
 mod scope;
 mod simple;
 mod statements;
+#[cfg(test)]
+mod tests;
 
 pub use elaborator::elaborate;
 pub use fault::ElabFault;
