@@ -26,14 +26,19 @@ NOTHING = "qubit[2] q;"
 NOTHING_SETS = "claim pre = [|00>]; claim post = [|00>];"
 
 
-def refuted(state, end):
-    """The report of a refuted program without bits. An entry is a ket's digits and its amplitude's text."""
-    lines = ["1 post: refuted", "  bits -"]
+def refuted(state, end, bits="-"):
+    """The report of a refuted program of gates. An entry is a ket's digits and its amplitude's text."""
+    lines = ["1 post: refuted", "  bits " + bits]
     lines += ["  state |%s> %s" % entry for entry in state]
-    lines += ["  outcomes -", "  end bits -"]
+    lines += ["  outcomes -", "  end bits " + bits]
     lines += ["  end |%s> %s" % entry for entry in end]
     lines += ["verified 0, refuted 1, gave up 0"]
     return "".join(line + "\n" for line in lines)
+
+
+def fault(line, column, said):
+    """The line of a program's first fault."""
+    return "refused: program %d:%d: %s\n" % (line, column, said)
 
 
 def claims(before, after):
@@ -174,6 +179,13 @@ checked(
     ),
     1,
 )
+checked(
+    "bits that no statement uses",
+    "bit c; qubit q; creg d[2]; x q;",
+    claims("|0>", "|0>"),
+    refuted([("0", "(1,0,0,0)/0")], [("1", "(1,0,0,0)/0")], "000"),
+    1,
+)
 # Each `h` and `t` brings new digits, and the amplitudes of 1,000 pairs would have coefficients of far more than 127 bits.
 checked("numbers too wide", calls(1, *["h q[0];", "t q[0];"] * 2000), claims("|0>", "|0>"), GAVE_UP_WIDTH, 2)
 
@@ -204,7 +216,8 @@ case("a file with such a name", ["check", "größe", "S"], {"größe": BELL, "S"
 case("an empty name", ["check", "", "S"], {"S": BELL_SETS}, "read fault: \n", 5)
 case("a name with a blank", ["check", "my file", "S"], {"my file": BELL, "S": BELL_SETS}, VERIFIED, 0)
 case("one file twice", ["check", "P", "P"], {"P": BELL}, SETS_UNBUILT, 3)
-case("the program is refused before the sets are read", ["check", "P", "S"], {"P": "qubit q;"}, PROGRAM_UNBUILT, 3)
+case("the program's faults come before the sets are read", ["check", "P", "S"], {"P": ""}, fault(1, 1, "NoQubits"), 3)
+case("the program is unbuilt before the sets are read", ["check", "P", "S"], {"P": "qubit q; reset q;"}, PROGRAM_UNBUILT, 3)
 case("a long program is refused before the sets are read", ["check", "P", "S"], {"P": " " * (MOST_PROGRAM + 1)}, PROGRAM_TOO_LONG, 3)
 
 # ---- sizes
@@ -214,9 +227,9 @@ checked("a program too long", padded(BELL, MOST_PROGRAM + 1), BELL_SETS, PROGRAM
 checked("too long comes before what the text says", padded("no program", MOST_PROGRAM + 1), BELL_SETS, PROGRAM_TOO_LONG, 3)
 verified("sets at their longest", BELL, padded(BELL_SETS, MOST_SETS))
 checked("sets too long", BELL, padded(BELL_SETS, MOST_SETS + 1), SETS_TOO_LONG, 3)
-checked("long sets come behind the program", "qubit q;", padded(BELL_SETS, MOST_SETS + 1), PROGRAM_UNBUILT, 3)
+checked("long sets come behind the program", "qubit q; reset q;", padded(BELL_SETS, MOST_SETS + 1), PROGRAM_UNBUILT, 3)
 verified("as many calls as there may be", "qubit[1] q;" + "x q[0];" * MOST_CALLS, claims("|0>", "|0>"))
-checked("one call too many", "qubit[1] q;" + "x q[0];" * (MOST_CALLS + 1), claims("|0>", "|1>"), PROGRAM_UNBUILT, 3)
+checked("one call too many", "qubit[1] q;" + "x q[0];" * (MOST_CALLS + 1), claims("|0>", "|1>"), fault(1, 700012, "TooManyStatements"), 3)
 
 # ---- program texts that are taken
 
@@ -230,62 +243,67 @@ verified("lines that end with 13 and 10", BELL.replace("\n", "\r\n"), BELL_SETS.
 verified("lines that end with 13", BELL.replace("\n", "\r"), BELL_SETS.replace("\n", "\r"))
 verified("numerals with a zero in front", "qubit[02] q; h q[00]; cx q[0], q[01];", BELL_SETS)
 
+verified("a comment", BELL + "// done\n", BELL_SETS)
+verified("a comment of lines", "/* Bell\n */" + BELL, BELL_SETS)
+verified("a count of three digits", "qubit[002] q;", NOTHING_SETS)
+verified("no count", "qubit q;", claims("|0>", "|0>"))
+verified("another name", "qubit[2] r; h r[0];", claims("|00>", "|00> + |10>"))
+verified("a register of bits", "qubit[2] q; bit[2] c;", NOTHING_SETS)
+verified("an index of three digits", "qubit[2] q; h q[001];", claims("|00>", "|00> + |01>"))
+verified("no index", "qubit[2] q; h q;", claims("|00>", "|00> + |01> + |10> + |11>"))
+verified("a gate with an angle", "qubit[2] q; p(pi) q[0];", claims("|00> + |10>", "|00> - |10>"))
+verified("t backwards", "qubit[2] q; h q[0]; t q[0]; tdg q[0]; h q[0];", NOTHING_SETS)
+for version in ["3", "3.1", "3.00"]:
+    verified("version " + version, "OPENQASM %s; qubit[2] q;" % version, NOTHING_SETS)
+verified("the include in single quotes", "include 'stdgates.inc'; qubit[2] q;", NOTHING_SETS)
+verified("the include twice", 'include "stdgates.inc"; include "stdgates.inc"; qubit[2] q;', NOTHING_SETS)
+
 # ---- program texts that are refused
 
-for name, program in [
-    ("an empty program", ""),
-    ("blanks alone", " \t\r\n"),
-    ("a byte order mark", b"\xef\xbb\xbf" + BELL.encode()),
-    ("bytes that aren't UTF-8", BELL.encode() + b"\xff"),
-    ("a character cut off", BELL.encode() + b"\xcf"),
-    ("a byte 0", BELL + "\0"),
-    ("a form feed", BELL + "\f"),
-    ("a letter that isn't ASCII", BELL + "é"),
-    ("a comment", BELL + "// done\n"),
-    ("a comment of lines", "/* Bell */" + BELL),
-    ("an annotation", "qubit[2] q;\n@assert bell\nh q[0];"),
-    ("no qubit", "qubit[0] q;"),
-    ("seventeen qubits", "qubit[17] q;"),
-    ("a count of three digits", "qubit[002] q;"),
-    ("no count", "qubit q;"),
-    ("another name", "qubit[2] r; h r[0];"),
-    ("two registers", "qubit[2] q; qubit[2] q;"),
-    ("no register", "h q[0];"),
-    ("the declaration behind a call", "h q[0]; qubit[2] q;"),
-    ("a register of bits", "qubit[2] q; bit[2] c;"),
-    ("an index that is the count", "qubit[2] q; h q[2];"),
-    ("a control that is the count", "qubit[2] q; cx q[2], q[0];"),
-    ("a target that is the count", "qubit[2] q; cx q[0], q[2];"),
-    ("an index of three digits", "qubit[2] q; h q[001];"),
-    ("an index with a sign", "qubit[2] q; h q[-1];"),
-    ("one qubit twice", "qubit[2] q; cx q[0], q[0];"),
-    ("one qubit twice in two spellings", "qubit[2] q; cx q[1], q[01];"),
-    ("no index", "qubit[2] q; h q;"),
-    ("one operand of two", "qubit[2] q; cx q[0];"),
-    ("two operands of one", "qubit[2] q; h q[0], q[1];"),
-    ("three operands of two", "qubit[3] q; cx q[0], q[1], q[2];"),
-    ("a gate that isn't built", "qubit[2] q; tdg q[0];"),
-    ("a gate in a capital letter", "qubit[2] q; X q[0];"),
-    ("an unknown gate", "qubit[2] q; hh q[0];"),
-    ("a gate with an angle", "qubit[2] q; p(pi) q[0];"),
-    ("a word that runs into the next", "qubit[2] q; hq[0];"),
-    ("an index that runs on", "qubit[2] q; h q[0x];"),
-    ("no semicolon", "qubit[2] q; h q[0]"),
-    ("a semicolon too many", "qubit[2] q; h q[0];;"),
-    ("a measurement", "qubit[2] q; measure q[0];"),
-    ("version 2", "OPENQASM 2.0; qubit[2] q;"),
-    ("version 3 without its part", "OPENQASM 3; qubit[2] q;"),
-    ("version 3.1", "OPENQASM 3.1; qubit[2] q;"),
-    ("version 3.00", "OPENQASM 3.00; qubit[2] q;"),
-    ("a version that runs together", "OPENQASM3.0; qubit[2] q;"),
-    ("the version twice", "OPENQASM 3.0; OPENQASM 3.0; qubit[2] q;"),
-    ("the version behind the include", 'include "stdgates.inc"; OPENQASM 3.0; qubit[2] q;'),
-    ("another include", 'include "other.inc"; qubit[2] q;'),
-    ("a blank in the include's name", 'include "stdgates.inc "; qubit[2] q;'),
-    ("the include in single quotes", "include 'stdgates.inc'; qubit[2] q;"),
-    ("the include twice", 'include "stdgates.inc"; include "stdgates.inc"; qubit[2] q;'),
+for name, program, line in [
+    ("an empty program", "", fault(1, 1, "NoQubits")),
+    ("blanks alone", " \t\r\n", fault(2, 1, "NoQubits")),
+    ("a byte order mark", b"\xef\xbb\xbf" + BELL.encode(), fault(1, 1, "BadByte")),
+    ("bytes that aren't UTF-8", BELL.encode() + b"\xff", fault(6, 1, "NotUtf8")),
+    ("a character cut off", BELL.encode() + b"\xcf", fault(6, 1, "NotUtf8")),
+    ("a byte 0", BELL + "\0", fault(6, 1, "BadByte")),
+    ("a form feed", BELL + "\f", fault(6, 1, "BadByte")),
+    ("a letter that isn't ASCII", BELL + "é", fault(6, 1, "BadByte")),
+    ("a version that runs together", "OPENQASM3.0; qubit[2] q;", fault(1, 10, "BadByte")),
+    ("an index with a sign", "qubit[2] q; h q[-1];", fault(1, 17, "Unexpected")),
+    ("a word that runs into the next", "qubit[2] q; hq[0];", fault(1, 18, "Unexpected")),
+    ("an index that runs on", "qubit[2] q; h q[0x];", fault(1, 18, "Unexpected")),
+    ("no semicolon", "qubit[2] q; h q[0]", fault(1, 19, "Unexpected")),
+    ("a semicolon too many", "qubit[2] q; h q[0];;", fault(1, 20, "Unexpected")),
+    ("the version twice", "OPENQASM 3.0; OPENQASM 3.0; qubit[2] q;", fault(1, 15, "Unexpected")),
+    ("the version behind the include", 'include "stdgates.inc"; OPENQASM 3.0; qubit[2] q;', fault(1, 25, "Unexpected")),
+    ("version 2", "OPENQASM 2.0; qubit[2] q;", fault(1, 10, "NotTaken 2.0")),
+    ("another include", 'include "other.inc"; qubit[2] q;', fault(1, 9, 'NotTaken "other.inc"')),
+    ("a blank in the include's name", 'include "stdgates.inc "; qubit[2] q;', fault(1, 9, 'NotTaken "stdgates.inc "')),
+    ("a word that isn't taken", "qubit q; gphase q;", fault(1, 10, "NotTaken gphase")),
+    ("no qubit", "qubit[0] q;", fault(1, 10, "EmptyRegister")),
+    ("seventeen qubits", "qubit[17] q;", fault(1, 11, "TooManyQubits")),
+    ("two registers of one name", "qubit[2] q; qubit[2] q;", fault(1, 22, "TwiceDeclared")),
+    ("no register", "h q[0];", fault(1, 3, "UnknownName")),
+    ("the declaration behind a call", "h q[0]; qubit[2] q;", fault(1, 3, "UnknownName")),
+    ("an index that is the count", "qubit[2] q; h q[2];", fault(1, 15, "IndexOut")),
+    ("a control that is the count", "qubit[2] q; cx q[2], q[0];", fault(1, 16, "IndexOut")),
+    ("a target that is the count", "qubit[2] q; cx q[0], q[2];", fault(1, 22, "IndexOut")),
+    ("one qubit twice", "qubit[2] q; cx q[0], q[0];", fault(1, 22, "RepeatedQubit")),
+    ("one qubit twice in two spellings", "qubit[2] q; cx q[1], q[01];", fault(1, 22, "RepeatedQubit")),
+    ("one operand of two", "qubit[2] q; cx q[0];", fault(1, 13, "OperandCount")),
+    ("two operands of one", "qubit[2] q; h q[0], q[1];", fault(1, 13, "OperandCount")),
+    ("three operands of two", "qubit[3] q; cx q[0], q[1], q[2];", fault(1, 13, "OperandCount")),
+    ("a gate in a capital letter", "qubit[2] q; X q[0];", fault(1, 13, "UnknownGate")),
+    ("an unknown gate", "qubit[2] q; hh q[0];", fault(1, 13, "UnknownGate")),
+    ("an angle that isn't taken", "qubit q; rx(pi/4) q;", fault(1, 13, "AngleForm")),
+    ("an assertion", "qubit[2] q;\n@assert bell\nh q[0];", PROGRAM_UNBUILT),
+    ("a measurement", "qubit[2] q; measure q[0];", PROGRAM_UNBUILT),
+    ("a reset", "qubit[2] q; reset q[0];", PROGRAM_UNBUILT),
+    ("a branch", "qubit[2] q; bit c; if (c) x q;", PROGRAM_UNBUILT),
+    ("a loop", "qubit[2] q; bit c;\n@invariant one\nwhile (c) { x q; }", PROGRAM_UNBUILT),
 ]:
-    checked("program: " + name, program, NOTHING_SETS, PROGRAM_UNBUILT, 3)
+    checked("program: " + name, program, NOTHING_SETS, line, 3)
 
 # ---- set texts that are taken
 

@@ -40,8 +40,7 @@ def drawn_pair(seed):
     before = drawn_bracket(draw, qubits)
     after = draw.choice((before, drawn_bracket(draw, qubits)))
     sets = "claim pre = %s;\nclaim post = %s;\n" % (before, after)
-    if draw.randrange(4) == 0:
-        program = spoiled(draw, program)
+    # a program isn't spoiled: it may become one that only the whole language has
     if draw.randrange(4) == 0:
         sets = spoiled(draw, sets)
     return program.encode(), sets.encode()

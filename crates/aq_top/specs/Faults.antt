@@ -38,14 +38,11 @@ HasProgramFault text (fault.Elab f) = (f ≡ meant.Memory → ⊥) → SaysNoPro
 
 -- ---- its line
 
--- the line of a fault at a place of the program
+-- the line of a fault of the program: its place, and what is said of it
 unfoldable pub program_line : Place → List ℕ → List ℕ
-program_line at name = codes "refused: program " ++ (decimal at.line ++ (codes ":" ++ (decimal at.column ++ (codes ": " ++ (name ++ newline)))))
+program_line at said = codes "refused: program " ++ (decimal at.line ++ (codes ":" ++ (decimal at.column ++ (codes ": " ++ (said ++ newline)))))
 
--- the line of what is not taken
-unfoldable pub not_taken_line : Place → List ℕ → List ℕ
-not_taken_line at word = codes "refused: program " ++ (decimal at.line ++ (codes ":" ++ (decimal at.column ++ (codes ": NotTaken " ++ (word ++ newline)))))
-
+-- a fault is named; what is not taken has its word as well
 unfoldable pub lex_line : LexFault → List ℕ
 lex_line (lexed.NotUtf8 at) = program_line at (codes "NotUtf8")
 lex_line (lexed.BadByte at byte) = program_line at (codes "BadByte")
@@ -56,7 +53,7 @@ lex_line lexed.Memory = memory_line
 
 unfoldable pub parse_line : ParseFault → List ℕ
 parse_line (parsed.Unexpected at token) = program_line at (codes "Unexpected")
-parse_line (parsed.NotTaken at word) = not_taken_line at word
+parse_line (parsed.NotTaken at word) = program_line at (codes "NotTaken " ++ word)
 parse_line (parsed.TooDeep at) = program_line at (codes "TooDeep")
 parse_line parsed.Memory = memory_line
 
@@ -79,7 +76,7 @@ elab_line (meant.StrayAnnotation at) = program_line at (codes "StrayAnnotation")
 elab_line (meant.DeclaredInBlock at) = program_line at (codes "DeclaredInBlock")
 elab_line meant.Memory = memory_line
 
--- the line of a fault: its place and its name; what is not taken has its word as well
+-- the line of a fault
 abbrev pub fault_line : ProgramFault → List ℕ
 fault_line (fault.Lex f) = lex_line f
 fault_line (fault.Parse f) = parse_line f

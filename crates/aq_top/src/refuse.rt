@@ -1,7 +1,7 @@
 //! The lines of a program's faults.
-ghost use Rattle.std.specs.Prelude.{◌≡◌};
+ghost use Rattle.std.specs.Prelude.{◌≡◌, ◌++◌};
 ghost use Rattle.aq_world.specs.Prints.{Prints};
-ghost use Rattle.aq_top.specs.Faults.{program_line, not_taken_line, lex_line, parse_line, elab_line, fault_line, is_lex_memory, is_parse_memory, is_elab_memory, is_memory, fault_status};
+ghost use Rattle.aq_top.specs.Faults.{program_line, lex_line, parse_line, elab_line, fault_line, is_lex_memory, is_parse_memory, is_elab_memory, is_memory, fault_status};
 ghost use Rattle.aq_top.specs.Lines.{memory_line};
 
 use crate::program::ProgramFault;
@@ -18,10 +18,15 @@ pub(crate) fn print_memory<K: Sink>(out: &mut K) -> Result<(), SinkFault>
     put_text(out, b"out of memory\n")
 }
 
-/// The line of the fault with this name.
+/// The line of a fault: its name, and the word that belongs to it.
 #[tactic(auto, unfolding(crate::specs::Faults::program_line))]
-fn print_named<K: Sink>(out: &mut K, at: Place, name: &[u8]) -> Result<(), SinkFault>
-    ensures { Prints (K.told out.old) (K.told out.new) (K.faults out.old) (K.faults out.new) result (program_line at name.now) }
+fn print_told<'a, K: Sink>(
+    out: &mut K,
+    at: Place,
+    name: &'a [u8],
+    word: &'a [u8],
+) -> Result<(), SinkFault>
+    ensures { Prints (K.told out.old) (K.told out.new) (K.faults out.old) (K.faults out.new) result (program_line at (name.entry.now ++ word.entry.now)) }
 {
     put_pieces(
         out,
@@ -32,28 +37,17 @@ fn print_named<K: Sink>(out: &mut K, at: Place, name: &[u8]) -> Result<(), SinkF
             Piece::Number(u64::from(at.column)),
             Piece::Text(b": "),
             Piece::Text(name),
+            Piece::Text(word),
             Piece::Text(b"\n"),
         ],
     )
 }
 
-/// The line of a word that is not taken.
-#[tactic(auto, unfolding(crate::specs::Faults::not_taken_line))]
-fn print_not_taken<K: Sink>(out: &mut K, at: Place, word: &[u8]) -> Result<(), SinkFault>
-    ensures { Prints (K.told out.old) (K.told out.new) (K.faults out.old) (K.faults out.new) result (not_taken_line at word.now) }
+/// The line of the fault with this name.
+fn print_named<K: Sink>(out: &mut K, at: Place, name: &[u8]) -> Result<(), SinkFault>
+    ensures { Prints (K.told out.old) (K.told out.new) (K.faults out.old) (K.faults out.new) result (program_line at name.now) }
 {
-    put_pieces(
-        out,
-        &[
-            Piece::Text(b"refused: program "),
-            Piece::Number(u64::from(at.line)),
-            Piece::Text(b":"),
-            Piece::Number(u64::from(at.column)),
-            Piece::Text(b": NotTaken "),
-            Piece::Text(word),
-            Piece::Text(b"\n"),
-        ],
-    )
+    print_told(out, at, name, b"")
 }
 
 #[tactic(auto, unfolding(crate::specs::Faults::lex_line))]
@@ -76,7 +70,7 @@ fn print_parse<K: Sink>(out: &mut K, fault: &ParseFault) -> Result<(), SinkFault
 {
     match fault {
         ParseFault::Unexpected { at, .. } => print_named(out, *at, b"Unexpected"),
-        ParseFault::NotTaken { at, word } => print_not_taken(out, *at, word.as_slice()),
+        ParseFault::NotTaken { at, word } => print_told(out, *at, b"NotTaken ", word.as_slice()),
         ParseFault::TooDeep { at } => print_named(out, *at, b"TooDeep"),
         ParseFault::Memory => print_memory(out),
     }

@@ -43,10 +43,24 @@ fn check_by<S: Shelf, K: Sink>(
     Ok(run(alloc, words.as_slice(), shelf, out))
 }
 
+/// The status and the output of `check P bell.sets` on these texts.
+fn answer(alloc: Global, program: &[u8], sets: &[u8]) -> Result<(Status, Text), AllocError> {
+    let mut shelf = HonestShelf {
+        alloc,
+        files: files_of(alloc, program, sets)?,
+    };
+    let mut out = HonestSink {
+        bytes: Text::new(alloc),
+    };
+    let words = words_of(alloc, &["check", "P", "bell.sets"])?;
+    let status = run_honest(alloc, words.as_slice(), &mut shelf, &mut out);
+    Ok((status, out.bytes))
+}
+
 #[test]
-fn texts_and_statuses(rt: HostRuntime) -> Result<(), Fail> {
+fn reports(rt: HostRuntime) -> Result<(), Fail> {
     let alloc = rt.alloc();
-    let rows: [(&[u8], &[u8], &[u8], u8); 7] = [
+    let rows: [(&[u8], &[u8], &[u8], u8); 6] = [
         (
             BELL,
             PLUS,
@@ -71,28 +85,79 @@ fn texts_and_statuses(rt: HostRuntime) -> Result<(), Fail> {
             b"1 post: refuted\n  bits -\n  state |0> (1,0,0,0)/0\n  state |1> (1,0,0,0)/0\n  outcomes -\n  end bits -\n  end |0> (1,0,0,0)/0\n  end |1> (0,1,0,0)/0\nverified 0, refuted 1, gave up 0\n",
             1,
         ),
-        (b"qubit[17] q;", PLUS, b"refused: program: Unbuilt\n", 3),
         (
-            BELL,
-            b"claim pre = [|00> + |00>]; claim post = [|00>];",
-            b"refused: sets: Unbuilt\n",
-            3,
+            b"qubit[2] p; // two\nh p;\nqreg r[1];\nbarrier;",
+            b"claim pre = [|000>]; claim post = [|000> + |010> + |100> + |110>];",
+            b"1 post: verified\nverified 1, refuted 0, gave up 0\n",
+            0,
         ),
-        (b"", b"", b"refused: program: Unbuilt\n", 3),
+        (
+            b"bit c; qubit q; creg d[2]; x q;",
+            b"claim pre = [|0>]; claim post = [|0>];",
+            b"1 post: refuted\n  bits 000\n  state |0> (1,0,0,0)/0\n  outcomes -\n  end bits 000\n  end |1> (1,0,0,0)/0\nverified 0, refuted 1, gave up 0\n",
+            1,
+        ),
     ];
-    for (program, sets, wanted, code) in rows {
-        let mut shelf = HonestShelf {
-            alloc,
-            files: files_of(alloc, program, sets)?,
-        };
-        let mut out = HonestSink {
-            bytes: Text::new(alloc),
-        };
-        let words = words_of(alloc, &["check", "P", "bell.sets"])?;
-        let status = run_honest(alloc, words.as_slice(), &mut shelf, &mut out);
-        assert_eq!(rt; status.code(), code);
-        assert_eq!(rt; out.bytes.as_slice(), wanted);
+    for (row, (program, sets, wanted, code)) in rows.iter().enumerate() {
+        let (status, bytes) = answer(alloc, program, sets)?;
+        assert_eq!(rt; status.code(), *code, "in row {row}");
+        assert_eq!(rt; bytes.as_slice(), *wanted, "in row {row}");
     }
+    Ok(())
+}
+
+#[test]
+fn refusals(rt: HostRuntime) -> Result<(), Fail> {
+    let alloc = rt.alloc();
+    let rows: [(&[u8], &[u8]); 15] = [
+        (b"qubit q;\n\xff", b"refused: program 2:1: NotUtf8\n"),
+        (b"qubit q;\n x #q;", b"refused: program 2:4: BadByte\n"),
+        (b"qubit q; /* x q;", b"refused: program 1:10: OpenComment\n"),
+        (b"include \"std", b"refused: program 1:9: OpenText\n"),
+        (
+            b"qubit[1000000001] q;",
+            b"refused: program 1:7: LongNumber\n",
+        ),
+        (b"qubit q", b"refused: program 1:8: Unexpected\n"),
+        (b"qubit q;\nx q[0;\n", b"refused: program 2:6: Unexpected\n"),
+        (
+            b"qubit q; gphase q;",
+            b"refused: program 1:10: NotTaken gphase\n",
+        ),
+        (b"OPENQASM 2.0;", b"refused: program 1:10: NotTaken 2.0\n"),
+        (
+            b"qubit q; rx(pi/4) q;",
+            b"refused: program 1:13: AngleForm\n",
+        ),
+        (b"qubit[17] q;", b"refused: program 1:11: TooManyQubits\n"),
+        (b"", b"refused: program 1:1: NoQubits\n"),
+        (
+            b"qubit q; bit c; measure q -> c;",
+            b"refused: program: Unbuilt\n",
+        ),
+        (
+            b"qubit q; bit c; if (c == 1) x q;",
+            b"refused: program: Unbuilt\n",
+        ),
+        (
+            b"qubit q;\n@assert one\nx q;",
+            b"refused: program: Unbuilt\n",
+        ),
+    ];
+    for (row, (program, wanted)) in rows.iter().enumerate() {
+        let (status, bytes) = answer(alloc, program, PLUS)?;
+        assert_eq!(rt; status, Status::Refused, "in row {row}");
+        assert_eq!(rt; bytes.as_slice(), *wanted, "in row {row}");
+    }
+    Ok(())
+}
+
+#[test]
+fn sets_that_are_not_thin(rt: HostRuntime) -> Result<(), Fail> {
+    let sets = b"claim pre = [|00> + |00>]; claim post = [|00>];";
+    let (status, bytes) = answer(rt.alloc(), BELL, sets.as_slice())?;
+    assert_eq!(rt; status, Status::Refused);
+    assert_eq!(rt; bytes.as_slice(), b"refused: sets: Unbuilt\n".as_slice());
     Ok(())
 }
 
@@ -116,25 +181,46 @@ fn words_that_ask_for_nothing(rt: HostRuntime) -> Result<(), Fail> {
     Ok(())
 }
 
-#[test]
-fn a_second_read_that_fails(rt: HostRuntime) -> Result<(), Fail> {
-    let alloc = rt.alloc();
+/// A shelf with this program, of which the second call fails.
+fn failing_shelf(alloc: Global, program: &[u8]) -> Result<MemoryShelf, AllocError> {
     let mut fails = Items::new(alloc);
     fails.push(1)?;
-    let mut shelf = MemoryShelf {
+    Ok(MemoryShelf {
         alloc,
-        files: files_of(alloc, BELL, PLUS)?,
+        files: files_of(alloc, program, PLUS)?,
         fails,
         calls: 0,
         count: 0,
         blamed: Text::new(alloc),
         keeping: false,
-    };
+    })
+}
+
+#[test]
+fn a_second_read_that_fails(rt: HostRuntime) -> Result<(), Fail> {
+    let alloc = rt.alloc();
+    let mut shelf = failing_shelf(alloc, BELL)?;
     let mut out = HonestSink {
         bytes: Text::new(alloc),
     };
     assert_eq!(rt; check_by(alloc, &mut shelf, &mut out)?, Status::Read);
     assert_eq!(rt; out.bytes.as_slice(), b"read fault: bell.sets\n".as_slice());
+    Ok(())
+}
+
+#[test]
+fn sets_are_not_read_behind_a_program_that_is_unbuilt(rt: HostRuntime) -> Result<(), Fail> {
+    let alloc = rt.alloc();
+    let mut shelf = failing_shelf(alloc, b"qubit q; reset q;")?;
+    let mut out = HonestSink {
+        bytes: Text::new(alloc),
+    };
+    assert_eq!(rt; check_by(alloc, &mut shelf, &mut out)?, Status::Refused);
+    assert_eq!(rt;
+        out.bytes.as_slice(),
+        b"refused: program: Unbuilt\n".as_slice()
+    );
+    assert_eq!(rt; shelf.calls, 1);
     Ok(())
 }
 
