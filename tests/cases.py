@@ -204,7 +204,7 @@ case("a file with such a name", ["check", "größe", "S"], {"größe": BELL, "S"
 case("an empty name", ["check", "", "S"], {"S": BELL_SETS}, "read fault: \n", 5)
 case("a name with a blank", ["check", "my file", "S"], {"my file": BELL, "S": BELL_SETS}, VERIFIED, 0)
 case("one file twice", ["check", "P", "P"], {"P": BELL}, SETS_UNBUILT, 3)
-case("the program is refused before the sets are read", ["check", "P", "S"], {"P": "qubit q;"}, PROGRAM_UNBUILT, 3)
+case("the program is refused before the sets are read", ["check", "P", "S"], {"P": "qubit[0] q;"}, "refused: program 1:10: EmptyRegister\n", 3)
 case("a long program is refused before the sets are read", ["check", "P", "S"], {"P": " " * (MOST_PROGRAM + 1)}, PROGRAM_TOO_LONG, 3)
 
 # ---- sizes
@@ -214,11 +214,11 @@ checked("a program too long", padded(BELL, MOST_PROGRAM + 1), BELL_SETS, PROGRAM
 checked("too long comes before what the text says", padded("no program", MOST_PROGRAM + 1), BELL_SETS, PROGRAM_TOO_LONG, 3)
 verified("sets at their longest", BELL, padded(BELL_SETS, MOST_SETS))
 checked("sets too long", BELL, padded(BELL_SETS, MOST_SETS + 1), SETS_TOO_LONG, 3)
-checked("long sets come behind the program", "qubit q;", padded(BELL_SETS, MOST_SETS + 1), PROGRAM_UNBUILT, 3)
+checked("long sets come behind the program", "qubit q; reset q;", padded(BELL_SETS, MOST_SETS + 1), PROGRAM_UNBUILT, 3)
 verified("as many calls as there may be", "qubit[1] q;" + "x q[0];" * MOST_CALLS, claims("|0>", "|0>"))
-checked("one call too many", "qubit[1] q;" + "x q[0];" * (MOST_CALLS + 1), claims("|0>", "|1>"), PROGRAM_UNBUILT, 3)
+checked("one call too many", "qubit[1] q;" + "x q[0];" * (MOST_CALLS + 1), claims("|0>", "|1>"), "refused: program 1:700012: TooManyStatements\n", 3)
 
-# ---- program texts that are taken
+# ---- program texts that are taken; programs.py has more, and those that are refused
 
 verified("no version and no include", calls(2, "h q[0];", "cx q[0], q[1];"), BELL_SETS)
 verified("no include", "OPENQASM 3.0; qubit[2] q; h q[0]; cx q[0], q[1];", BELL_SETS)
@@ -229,63 +229,6 @@ verified("many blanks", BELL.replace(";", " ; ").replace("[", " [\t").replace("]
 verified("lines that end with 13 and 10", BELL.replace("\n", "\r\n"), BELL_SETS.replace("\n", "\r\n"))
 verified("lines that end with 13", BELL.replace("\n", "\r"), BELL_SETS.replace("\n", "\r"))
 verified("numerals with a zero in front", "qubit[02] q; h q[00]; cx q[0], q[01];", BELL_SETS)
-
-# ---- program texts that are refused
-
-for name, program in [
-    ("an empty program", ""),
-    ("blanks alone", " \t\r\n"),
-    ("a byte order mark", b"\xef\xbb\xbf" + BELL.encode()),
-    ("bytes that aren't UTF-8", BELL.encode() + b"\xff"),
-    ("a character cut off", BELL.encode() + b"\xcf"),
-    ("a byte 0", BELL + "\0"),
-    ("a form feed", BELL + "\f"),
-    ("a letter that isn't ASCII", BELL + "é"),
-    ("a comment", BELL + "// done\n"),
-    ("a comment of lines", "/* Bell */" + BELL),
-    ("an annotation", "qubit[2] q;\n@assert bell\nh q[0];"),
-    ("no qubit", "qubit[0] q;"),
-    ("seventeen qubits", "qubit[17] q;"),
-    ("a count of three digits", "qubit[002] q;"),
-    ("no count", "qubit q;"),
-    ("another name", "qubit[2] r; h r[0];"),
-    ("two registers", "qubit[2] q; qubit[2] q;"),
-    ("no register", "h q[0];"),
-    ("the declaration behind a call", "h q[0]; qubit[2] q;"),
-    ("a register of bits", "qubit[2] q; bit[2] c;"),
-    ("an index that is the count", "qubit[2] q; h q[2];"),
-    ("a control that is the count", "qubit[2] q; cx q[2], q[0];"),
-    ("a target that is the count", "qubit[2] q; cx q[0], q[2];"),
-    ("an index of three digits", "qubit[2] q; h q[001];"),
-    ("an index with a sign", "qubit[2] q; h q[-1];"),
-    ("one qubit twice", "qubit[2] q; cx q[0], q[0];"),
-    ("one qubit twice in two spellings", "qubit[2] q; cx q[1], q[01];"),
-    ("no index", "qubit[2] q; h q;"),
-    ("one operand of two", "qubit[2] q; cx q[0];"),
-    ("two operands of one", "qubit[2] q; h q[0], q[1];"),
-    ("three operands of two", "qubit[3] q; cx q[0], q[1], q[2];"),
-    ("a gate that isn't built", "qubit[2] q; tdg q[0];"),
-    ("a gate in a capital letter", "qubit[2] q; X q[0];"),
-    ("an unknown gate", "qubit[2] q; hh q[0];"),
-    ("a gate with an angle", "qubit[2] q; p(pi) q[0];"),
-    ("a word that runs into the next", "qubit[2] q; hq[0];"),
-    ("an index that runs on", "qubit[2] q; h q[0x];"),
-    ("no semicolon", "qubit[2] q; h q[0]"),
-    ("a semicolon too many", "qubit[2] q; h q[0];;"),
-    ("a measurement", "qubit[2] q; measure q[0];"),
-    ("version 2", "OPENQASM 2.0; qubit[2] q;"),
-    ("version 3 without its part", "OPENQASM 3; qubit[2] q;"),
-    ("version 3.1", "OPENQASM 3.1; qubit[2] q;"),
-    ("version 3.00", "OPENQASM 3.00; qubit[2] q;"),
-    ("a version that runs together", "OPENQASM3.0; qubit[2] q;"),
-    ("the version twice", "OPENQASM 3.0; OPENQASM 3.0; qubit[2] q;"),
-    ("the version behind the include", 'include "stdgates.inc"; OPENQASM 3.0; qubit[2] q;'),
-    ("another include", 'include "other.inc"; qubit[2] q;'),
-    ("a blank in the include's name", 'include "stdgates.inc "; qubit[2] q;'),
-    ("the include in single quotes", "include 'stdgates.inc'; qubit[2] q;"),
-    ("the include twice", 'include "stdgates.inc"; include "stdgates.inc"; qubit[2] q;'),
-]:
-    checked("program: " + name, program, NOTHING_SETS, PROGRAM_UNBUILT, 3)
 
 # ---- set texts that are taken
 
@@ -332,7 +275,7 @@ for name, sets in [
 ]:
     checked("sets: " + name, NOTHING, sets, SETS_UNBUILT, 3)
 
-# ---- examples/: the files as they lie there
+# ---- examples/: the files as they lie there; programs.py has more
 
 EXAMPLES = [
     ("bell", VERIFIED, 0),
