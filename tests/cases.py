@@ -218,6 +218,7 @@ case("a name with a blank", ["check", "my file", "S"], {"my file": BELL, "S": BE
 case("one file twice", ["check", "P", "P"], {"P": BELL}, SETS_UNBUILT, 3)
 case("the program's faults come before the sets are read", ["check", "P", "S"], {"P": ""}, fault(1, 1, "NoQubits"), 3)
 case("the program is unbuilt before the sets are read", ["check", "P", "S"], {"P": "qubit q; reset q;"}, PROGRAM_UNBUILT, 3)
+case("the program is refused before the sets are read", ["check", "P", "S"], {"P": "qubit[0] q;"}, "refused: program 1:10: EmptyRegister\n", 3)
 case("a long program is refused before the sets are read", ["check", "P", "S"], {"P": " " * (MOST_PROGRAM + 1)}, PROGRAM_TOO_LONG, 3)
 
 # ---- sizes
@@ -231,7 +232,7 @@ checked("long sets come behind the program", "qubit q; reset q;", padded(BELL_SE
 verified("as many calls as there may be", "qubit[1] q;" + "x q[0];" * MOST_CALLS, claims("|0>", "|0>"))
 checked("one call too many", "qubit[1] q;" + "x q[0];" * (MOST_CALLS + 1), claims("|0>", "|1>"), fault(1, 700012, "TooManyStatements"), 3)
 
-# ---- program texts that are taken
+# ---- program texts that are taken; programs.py has more, and those that are refused
 
 verified("no version and no include", calls(2, "h q[0];", "cx q[0], q[1];"), BELL_SETS)
 verified("no include", "OPENQASM 3.0; qubit[2] q; h q[0]; cx q[0], q[1];", BELL_SETS)
@@ -350,7 +351,7 @@ for name, sets in [
 ]:
     checked("sets: " + name, NOTHING, sets, SETS_UNBUILT, 3)
 
-# ---- examples/: the files as they lie there
+# ---- examples/: the files as they lie there; programs.py has more
 
 EXAMPLES = [
     ("bell", VERIFIED, 0),

@@ -2,18 +2,125 @@
 
 import random
 
+from language import ANGLED, OPERANDS
+
 SIGNS = (" + ", " - ")
+HALF_TURNS = ("0", "-0", "pi", "-pi", "pi/2", "-pi/2", "3*pi/2", "-3*\u03c0/2", "2*pi/4", "7*pi", "1000000*pi/2", "-999999*pi/2")
+ANGLES = HALF_TURNS + ("pi/4", "-pi/4", "3*pi/4", "-5*\u03c0/4", "1000000*pi/4", "-999999*pi/4")
+# angles that are refused, and one that is refused for some gates
+BAD_ANGLES = ("1", "pi/3", "pi/0", "1000001*pi", "pi/4")
+# names that may be declared; some are those of gates
+NAMES = ("q", "r", "_1", "x", "Q2", "measured", "p")
 
 
-def drawn_calls(draw, qubits):
-    lines = []
-    for _ in range(draw.randrange(0, 12)):
-        name = draw.choice(("x", "y", "z", "h", "h", "s", "t", "cx"))
-        if name == "cx" and qubits > 1:
-            lines.append("cx q[%d], q[%d];" % tuple(draw.sample(range(qubits), 2)))
-        elif name != "cx":
-            lines.append("%s q[%d];" % (name, draw.randrange(qubits)))
-    return lines
+def drawn_spot(draw, registers, whole):
+    name, size = draw.choice(registers)
+    if size is None or whole and draw.randrange(3) == 0:
+        return name
+    return "%s[%d]" % (name, draw.randrange(size))
+
+
+def qubits_of(spot, registers):
+    """The qubits that a spot names, as pairs of a register's name and an index."""
+    name, _, index = spot.rstrip("]").partition("[")
+    size = dict(registers)[name]
+    return [(name, int(index))] if index else [(name, at) for at in range(size or 1)]
+
+
+def fits_together(spots, registers):
+    sizes = {dict(registers)[spot] for spot in spots if "[" not in spot and dict(registers)[spot] is not None}
+    named = [qubits_of(spot, registers) for spot in spots]
+    disjoint = len({qubit for found in named for qubit in found}) == sum(len(found) for found in named)
+    return len(sizes) <= 1 and disjoint
+
+
+def drawn_call(draw, registers):
+    """A call that is taken, or nothing where none is found soon."""
+    for _ in range(20):
+        name = draw.choice(sorted(OPERANDS) + ["h", "h", "t", "x"])
+        spots = [drawn_spot(draw, registers, True) for _ in range(OPERANDS[name])]
+        if fits_together(spots, registers):
+            angle = "(%s)" % draw.choice(HALF_TURNS if name in ("rx", "ry", "rz") else ANGLES) if name in ANGLED else ""
+            return "%s%s %s;" % (name, angle, ", ".join(spots))
+    return ""
+
+
+def inverse(call):
+    """Calls that undo a call, where its instances may be played in any order."""
+    name, _, rest = call.partition(" ")
+    name, _, angle = name.partition("(")
+    if angle:
+        return "%s(%s %s" % (name, angle[1:] if angle[0] == "-" else "-" + angle, rest)
+    if name == "sx":
+        return "\n".join([call] * 3)
+    return {"s": "sdg", "sdg": "s", "t": "tdg", "tdg": "t"}.get(name, name) + " " + rest
+
+
+def doubtful_spot(draw, registers):
+    """A spot that may be none, or of another kind, or past the end."""
+    name = draw.choice(registers)[0]
+    good = [drawn_spot(draw, registers, True) for _ in range(2)]
+    return draw.choice(good + [name, name + "[1]", name + "[2]", "b", "b[0]", "none"])
+
+
+def drawn_fault(draw, registers):
+    """A statement that is refused, or one of a kind that may not be built, or now and then a good one."""
+    name = draw.choice(sorted(OPERANDS) * 2 + ["u3", "cu"])
+    spots = [doubtful_spot(draw, registers) for _ in range(draw.choice((OPERANDS.get(name, 1), OPERANDS.get(name, 1), 1, 2, 3)))]
+    angle = "(%s)" % draw.choice(ANGLES + BAD_ANGLES)
+    if (name in ANGLED) == (draw.randrange(8) == 0):
+        angle = ""
+    call = "%s%s %s;" % (name, angle, ", ".join(spots))
+    return draw.choice(
+        (
+            call,
+            call,
+            call,
+            "%s[%d] %s;" % (draw.choice(("qubit", "bit")), draw.choice((0, 1, 2, 17, 33)), draw.choice(NAMES + ("b",))),
+            "b[0] = measure %s;" % spots[0],
+            "measure %s -> b;" % spots[0],
+            "barrier %s;" % ", ".join(spots),
+            "reset %s;" % spots[0],
+            "if (b[0]) { %s } else bit e;" % call,
+            "while (%s == 1) %s" % (draw.choice((spots[0], "b")), call),
+            "@invariant a\nwhile (b == 1) %s" % call,
+            "@%s %s\n%s" % (draw.choice(("invariant", "assert", "other")), draw.choice(("a", "", "a b", "1")), call),
+        )
+    )
+
+
+def drawn_registers(draw):
+    """Names and sizes of registers of at most four qubits; a size may be missing."""
+    found, left = [], 4
+    for name in draw.sample(NAMES, draw.randrange(1, 4)):
+        size = draw.choice((None, 1, 2, 3))
+        if (size or 1) <= left:
+            found.append((name, size))
+            left -= size or 1
+    return found
+
+
+def declared(draw, word, old, name, size):
+    if draw.randrange(3) == 0:
+        return "%s %s%s;" % (old, name, "" if size is None else "[%d]" % size)
+    return "%s%s %s;" % (word, "" if size is None else "[%d]" % size, name)
+
+
+def drawn_program(draw):
+    """A program's text, and how many qubits it has where it is a good one."""
+    registers = drawn_registers(draw)
+    lines = [declared(draw, "qubit", "qreg", name, size) for name, size in registers]
+    lines += [declared(draw, "bit", "creg", "b", draw.choice((None, 1, 3)))] if draw.randrange(2) else []
+    calls = [call for call in (drawn_call(draw, registers) for _ in range(draw.randrange(0, 10))) if call]
+    lines += calls + ([inverse(call) for call in reversed(calls)] if draw.randrange(3) == 0 else [])
+    if draw.randrange(4) == 0:
+        lines.insert(draw.randrange(len(lines) + 1), drawn_fault(draw, registers))
+    note = "@other a note\nbarrier %s;" % registers[0][0]
+    for text in ("// a comment", "/* a comment\nof lines */", "barrier;", note, "include 'stdgates.inc';"):
+        if draw.randrange(6) == 0:
+            lines.insert(draw.randrange(1, len(lines) + 1), text)
+    head = draw.choice(("", "", "OPENQASM 3;\n", 'OPENQASM 3.0;\ninclude "stdgates.inc";\n'))
+    return head + "\n".join(lines) + "\n", sum(size or 1 for name, size in registers)
 
 
 def drawn_bracket(draw, qubits):
@@ -28,19 +135,20 @@ def drawn_bracket(draw, qubits):
 def spoiled(draw, text):
     """The text with one byte left out, doubled or changed."""
     at = draw.randrange(len(text))
-    return draw.choice((text[:at] + text[at + 1 :], text[:at] + text[at] + text[at:], text[:at] + draw.choice("q[];|+-x0 2") + text[at + 1 :]))
+    byte = draw.choice("q[];|+-x0 2(*/\"@{")
+    return text[:at] + draw.choice(("", text[at] * 2, byte)) + text[at + 1 :]
 
 
 def drawn_pair(seed):
     """A program's text and a set file's."""
     draw = random.Random(seed)
-    qubits = draw.randrange(1, 4)
-    program = "qubit[%d] q;\n" % qubits + "\n".join(drawn_calls(draw, qubits)) + "\n"
+    program, qubits = drawn_program(draw)
     # the same bracket twice gives a program without gates, or with gates that undo each other, a chance to be verified
     before = drawn_bracket(draw, qubits)
     after = draw.choice((before, drawn_bracket(draw, qubits)))
     sets = "claim pre = %s;\nclaim post = %s;\n" % (before, after)
-    # a program isn't spoiled: it may become one that only the whole language has
     if draw.randrange(4) == 0:
+        program = spoiled(draw, program)
+    if draw.randrange(8) == 0:
         sets = spoiled(draw, sets)
     return program.encode(), sets.encode()

@@ -1,24 +1,54 @@
-"""A plain slow program that does what `autoq check` is to do with thin texts, written from the definitions alone.
+"""A plain slow program that does what `autoq check` is to do, written from the definitions alone.
 
-It shares nothing with the checker but the definitions: numbers are Python's, of any size; a text is cut by one regular
-expression; a gate is computed entry by entry. `answer` gives what the program is to print for two texts, and its status.
+It shares nothing with the checker but the definitions: numbers are Python's, of any size; texts are cut by regular
+expressions; a gate is computed entry by entry. `answer` gives what the program is to print for two texts, and its status.
+Programs are read by language.py, whole; sets are those of docs/SETS.md.
 """
 
 import re
 
+import language
+
 LIMIT = 2**127
+MOST_PROGRAM = 1048576
+MOST_SETS = 4194304
 ZERO = ((0, 0, 0, 0), 0)
 ONE = ((1, 0, 0, 0), 0)
 
 # an entry is None for zero, or (j, e) for w^j / sqrt(2)^e
-GATES = {
-    b"x": ((None, (0, 0)), ((0, 0), None)),
-    b"y": ((None, (6, 0)), ((2, 0), None)),
-    b"z": (((0, 0), None), (None, (4, 0))),
-    b"h": (((0, 1), (0, 1)), ((0, 1), (4, 1))),
-    b"s": (((0, 0), None), (None, (2, 0))),
-    b"t": (((0, 0), None), (None, (1, 0))),
+FIXED = {
+    "id": (((0, 0), None), (None, (0, 0))),
+    "x": ((None, (0, 0)), ((0, 0), None)),
+    "y": ((None, (6, 0)), ((2, 0), None)),
+    "z": (((0, 0), None), (None, (4, 0))),
+    "h": (((0, 1), (0, 1)), ((0, 1), (4, 1))),
+    "s": (((0, 0), None), (None, (2, 0))),
+    "sdg": (((0, 0), None), (None, (6, 0))),
+    "t": (((0, 0), None), (None, (1, 0))),
+    "tdg": (((0, 0), None), (None, (7, 0))),
+    "sx": (((1, 1), (7, 1)), ((7, 1), (1, 1))),
 }
+# cosine and sine of f * pi/4, for f from 0 to 7
+COSINE = ((0, 0), (0, 1), None, (4, 1), (4, 0), (4, 1), None, (0, 1))
+SINE = (None, (0, 1), (0, 0), (0, 1), None, (4, 1), (4, 0), (4, 1))
+
+
+def on(entry, turns):
+    return None if entry is None else ((entry[0] + turns) % 8, entry[1])
+
+
+def matrix(name, eighths):
+    """A gate's rows. `eighths` counts the angle in pi/4."""
+    if name == "p":
+        return ((0, 0), None), (None, (eighths % 8, 0))
+    if name in FIXED:
+        return FIXED[name]
+    half = eighths // 2 % 8
+    if name == "rz":
+        return (((8 - half) % 8, 0), None), (None, (half, 0))
+    if name == "rx":
+        return (COSINE[half], on(SINE[half], 6)), (on(SINE[half], 6), COSINE[half])
+    return (COSINE[half], on(SINE[half], 4)), (SINE[half], COSINE[half])
 
 
 class Wide(Exception):
@@ -93,18 +123,19 @@ def term(entry, amplitude):
     return amplitude
 
 
-def after(vector, qubits, call):
-    name, control, target = call
+def after(vector, qubits, gate):
+    name, eighths, controls, target = gate
+    rows = matrix(name, eighths)
     weight = 1 << (qubits - 1 - target)
     new = list(vector)
     for x in range(1 << qubits):
-        if control is None or (x >> (qubits - 1 - control)) & 1:
-            row = GATES[name][1 if x & weight else 0]
+        if all((x >> (qubits - 1 - control)) & 1 for control in controls):
+            row = rows[1 if x & weight else 0]
             new[x] = plus(term(row[0], vector[x & ~weight]), term(row[1], vector[x | weight]))
     return new
 
 
-PIECE = re.compile(rb"[ \t\r\n]*(?:([A-Za-z_]\w*)|(\d+\.\d+)|(\d+)|(\"[^\"\n]*\")|(\|[01]+>)|([;,\[\]=+-]))", re.ASCII)
+PIECE = re.compile(rb"[ \t\r\n]*(?:([A-Za-z_]\w*)|(\|[01]+>)|([;\[\]=+-]))", re.ASCII)
 
 
 def pieces(text):
@@ -116,50 +147,6 @@ def pieces(text):
         found.append(match.group(match.lastindex))
         at = match.end()
     return found
-
-
-def matched(words, at, pattern):
-    """The words at the places of None, where the words there are those of the pattern."""
-    there = words[at : at + len(pattern)]
-    if len(there) < len(pattern) or any(p not in (None, w) for p, w in zip(pattern, there)):
-        return None
-    return [w for p, w in zip(pattern, there) if p is None]
-
-
-def numeral(word, below):
-    return int(word) if re.fullmatch(rb"\d{1,2}", word) and int(word) < below else None
-
-
-def one_call(words, at, qubits):
-    """A call and where the next one begins, or None."""
-    found = matched(words, at, [b"cx", b"q", b"[", None, b"]", b",", b"q", b"[", None, b"]", b";"])
-    if found:
-        control, target = (numeral(word, qubits) for word in found)
-        return None if control is None or target is None or control == target else ((b"x", control, target), at + 11)
-    found = matched(words, at, [None, b"q", b"[", None, b"]", b";"])
-    if not found or found[0] not in GATES or numeral(found[1], qubits) is None:
-        return None
-    return ((found[0], None, numeral(found[1], qubits)), at + 6)
-
-
-def thin_program(text):
-    words = pieces(text)
-    if words is None:
-        return None
-    at = 3 if words[:3] == [b"OPENQASM", b"3.0", b";"] else 0
-    at += 3 if words[at : at + 3] == [b"include", b'"stdgates.inc"', b";"] else 0
-    size = matched(words, at, [b"qubit", b"[", None, b"]", b"q", b";"])
-    qubits = numeral(size[0], 17) if size else None
-    if not qubits:
-        return None
-    calls, at = [], at + 6
-    while at < len(words):
-        found = one_call(words, at, qubits)
-        if not found:
-            return None
-        calls.append(found[0])
-        at = found[1]
-    return (qubits, calls) if len(calls) <= 100000 else None
 
 
 def bracket(words, at, qubits):
@@ -181,10 +168,11 @@ def bracket(words, at, qubits):
     return (vector, at + 1)
 
 
-def thin_sets(text, qubits):
+def sets_of(text, qubits):
+    """The vectors of the two claims, or None."""
     words, at, vectors = pieces(text), 0, []
     for name in (b"pre", b"post"):
-        if words is None or matched(words, at, [b"claim", name, b"=", b"["]) is None:
+        if words is None or words[at : at + 4] != [b"claim", name, b"=", b"["]:
             return None
         found = bracket(words, at + 4, qubits)
         if not found or words[found[1] : found[1] + 1] != [b";"]:
@@ -214,28 +202,40 @@ def entries(label, qubits, vector):
     return lines
 
 
+def wrong_end(qubits, gates, before, goal):
+    """The end of the gates from a vector, or None where it is the goal's state."""
+    end = before
+    for gate in gates:
+        end = after(end, qubits, gate)
+    return None if is_multiple(end, goal) else end
+
+
 def answer(program, sets):
-    """What is printed for two texts that aren't too long, and the status."""
-    found = thin_program(program)
-    if not found:
+    """What is printed for two texts, and the status."""
+    if len(program) > MOST_PROGRAM:
+        return "refused: program: TooLong\n", 3
+    try:
+        qubits, bits, gates = language.read(program)
+    except language.Refused as refused:
+        return "refused: program %s\n" % refused.line, 3
+    except language.Unbuilt:
         return "refused: program: Unbuilt\n", 3
-    qubits, calls = found
-    vectors = thin_sets(sets, qubits)
+    if len(sets) > MOST_SETS:
+        return "refused: sets: TooLong\n", 3
+    vectors = sets_of(sets, qubits)
     if not vectors:
         return "refused: sets: Unbuilt\n", 3
     try:
-        end = vectors[0]
-        for call in calls:
-            end = after(end, qubits, call)
-        verified = is_multiple(end, vectors[1])
+        end = wrong_end(qubits, gates, *vectors)
     except Wide:
         return "1 post: gave up width\nverified 0, refuted 0, gave up 1\n", 2
-    if verified:
+    if end is None:
         return "1 post: verified\nverified 1, refuted 0, gave up 0\n", 0
+    digits = "0" * bits or "-"
     return (
-        "1 post: refuted\n  bits -\n"
+        "1 post: refuted\n  bits %s\n" % digits
         + entries("state", qubits, vectors[0])
-        + "  outcomes -\n  end bits -\n"
+        + "  outcomes -\n  end bits %s\n" % digits
         + entries("end", qubits, end)
         + "verified 0, refuted 1, gave up 0\n"
     ), 1
