@@ -18,6 +18,15 @@ use sqlite_items::Items;
 use std::alloc::Global;
 use std::marker::Model;
 
+/// The most qubits of a program.
+const MOST_QUBITS: u64 = 16;
+
+/// The most bits of a program.
+const MOST_BITS: u64 = 32;
+
+/// The most statements of a program, inner ones included.
+const MOST_STATEMENTS: usize = 100_000;
+
 /// What a name stands for.
 #[derive(Clone, Copy, Debug, PartialEq, Eq)]
 pub(crate) enum Role {
@@ -206,7 +215,7 @@ impl Scope {
             Role::Qubit => {
                 let first = self.qubits;
                 let all = u64::from(first) + wide;
-                if all > 16 {
+                if all > MOST_QUBITS {
                     return Err(ElabFault::TooManyQubits { at: name.at });
                 }
                 let span = Span { first, size };
@@ -217,7 +226,7 @@ impl Scope {
             Role::Bit => {
                 let first = self.bits;
                 let all = u64::from(first) + wide;
-                if all > 32 {
+                if all > MOST_BITS {
                     return Err(ElabFault::TooManyBits { at: name.at });
                 }
                 let span = Span { first, size };
@@ -258,7 +267,7 @@ impl Scope {
             return Err(ElabFault::TooManyStatements { at });
         };
         match (self.statements as usize).checked_add(more) {
-            Some(all) if all <= 100_000 => {
+            Some(all) if all <= MOST_STATEMENTS => {
                 self.statements = all as u32;
                 Ok(())
             }

@@ -3,7 +3,7 @@ use crate::fault::ElabFault;
 use crate::laws::elaborations;
 use aq_lex::{Place, tokens};
 use aq_parse::parse;
-use aq_prog::{Guard, Program, Stmt};
+use aq_prog::{BitRegister, Program, Stmt};
 use std::alloc::{AllocError, Global};
 use std::test::Fail;
 
@@ -144,96 +144,126 @@ fn stray_annotations(rt: HostRuntime) {
     );
 }
 
-#[test]
-fn registers_go_by_index(rt: HostRuntime) {
-    let source =
-        b"qubit[2] q; bit[2] c; bit d; measure q -> c; d = measure q[1]; measure q; reset q; barrier q;";
-    let found = elaborated(&rt, source);
-    assert!(rt; found.is_ok());
-    if let Ok(program) = found {
-        assert!(rt; program.qubits == 2 && program.bits == 3);
-        assert!(rt;
-            matches!(
-                program.body.as_slice(),
-                [
-                    Stmt::Measure {
-                        qubit: 0,
-                        bit: Some(0),
-                    },
-                    Stmt::Measure {
-                        qubit: 1,
-                        bit: Some(1),
-                    },
-                    Stmt::Measure {
-                        qubit: 1,
-                        bit: Some(2),
-                    },
-                    Stmt::Measure {
-                        qubit: 0,
-                        bit: None,
-                    },
-                    Stmt::Measure {
-                        qubit: 1,
-                        bit: None,
-                    },
-                    Stmt::Reset { qubit: 0 },
-                    Stmt::Reset { qubit: 1 },
-                ]
-            )
-        );
-        if let [c, d] = program.registers.as_slice() {
-            assert!(rt; c.name.is(b"c") && c.first == 0 && c.size == 2 && c.indexed);
-            assert!(rt; d.name.is(b"d") && d.first == 2 && d.size == 1 && !d.indexed);
-        } else {
-            assert!(rt; false);
-        }
+/// The kind of a statement with two numbers that it has: of a measurement the qubit and the bit, of a reset the qubit, of
+/// an assert and a loop the claim and the line, of a branch the bit and its value.
+fn row(stmt: &Stmt) -> (u8, u32, u32) {
+    match stmt {
+        Stmt::Measure { qubit, bit } => (b'm', *qubit, bit.unwrap_or(99)),
+        Stmt::Reset { qubit } => (b'r', *qubit, 0),
+        Stmt::Assert { claim, line } => (b'a', *claim, *line),
+        Stmt::While { claim, line, .. } => (b'w', *claim, *line),
+        Stmt::If { guard, .. } => (b'i', guard.bit, u32::from(guard.value)),
+        _ => (b'?', 0, 0),
     }
 }
 
+fn rows(alloc: Global, body: &[Stmt]) -> Result<Vec<(u8, u32, u32)>, AllocError> {
+    let mut rows = Vec::new(alloc);
+    for stmt in body {
+        rows.push(row(stmt))?;
+    }
+    Ok(rows)
+}
+
+/// Whether the text's statements are these.
+fn gives(rt: &HostRuntime, source: &[u8], wanted: &[(u8, u32, u32)]) -> bool {
+    let Ok(program) = elaborated(rt, source) else {
+        return false;
+    };
+    match rows(rt.alloc(), program.body.as_slice()) {
+        Ok(rows) => rows.as_slice() == wanted,
+        Err(_) => false,
+    }
+}
+
+/// Whether the statements inside the last one are these.
+fn gives_inside(rt: &HostRuntime, source: &[u8], wanted: &[(u8, u32, u32)]) -> bool {
+    let Ok(program) = elaborated(rt, source) else {
+        return false;
+    };
+    let found = match program.body.as_slice().last() {
+        Some(Stmt::While { body, .. }) => rows(rt.alloc(), body.as_slice()),
+        Some(Stmt::If { no, .. }) => rows(rt.alloc(), no.as_slice()),
+        _ => Err(AllocError),
+    };
+    match found {
+        Ok(rows) => rows.as_slice() == wanted,
+        Err(_) => false,
+    }
+}
+
+const BY_INDEX: &[u8] =
+    b"qubit[2] q; bit[2] c; bit d; measure q -> c; d = measure q[1]; measure q; reset q; barrier q;";
+
 #[test]
-fn claims_by_their_first_mention(rt: HostRuntime) {
-    let source =
-        b"qubit q; bit[2] c;\n@invariant i\n@assert a\n@assert i\nwhile (!c[1]) {\n@assert b\nif (c[0]) reset q; }";
-    let found = elaborated(&rt, source);
+fn registers_go_by_index(rt: HostRuntime) {
+    assert!(rt;
+        gives(
+            &rt,
+            BY_INDEX,
+            &[
+                (b'm', 0, 0),
+                (b'm', 1, 1),
+                (b'm', 1, 2),
+                (b'm', 0, 99),
+                (b'm', 1, 99),
+                (b'r', 0, 0),
+                (b'r', 1, 0)
+            ]
+        )
+    );
+}
+
+/// Whether the register has this name, first bit and size, and goes by an index.
+fn is_register(register: &BitRegister, name: &[u8], first: u32, size: u32, indexed: bool) -> bool {
+    register.name.is(name)
+        && register.first == first
+        && register.size == size
+        && register.indexed == indexed
+}
+
+#[test]
+fn registers_of_a_program(rt: HostRuntime) {
+    let found = elaborated(&rt, BY_INDEX);
     assert!(rt; found.is_ok());
     if let Ok(program) = found {
-        if let [i, a, b] = program.claims.as_slice() {
-            assert!(rt; i.is(b"i") && a.is(b"a") && b.is(b"b"));
-        } else {
-            assert!(rt; false);
-        }
-        if let [
-            Stmt::Assert { claim: 1, line: 3 },
-            Stmt::Assert { claim: 0, line: 4 },
-            Stmt::While {
-                guard: Guard {
-                    bit: 1,
-                    value: false,
-                },
-                claim: 0,
-                body,
-                line: 5,
-            },
-        ] = program.body.as_slice()
-        {
-            assert!(rt;
-                matches!(
-                    body.as_slice(),
-                    [
-                        Stmt::Assert { claim: 2, line: 6 },
-                        Stmt::If {
-                            guard: Guard {
-                                bit: 0,
-                                value: true,
-                            },
-                            ..
-                        },
-                    ]
-                )
-            );
-        } else {
-            assert!(rt; false);
-        }
+        assert!(rt; program.qubits == 2 && program.bits == 3);
+        let registers = program.registers.as_slice();
+        assert_eq!(rt; registers.len(), 2);
+        assert!(rt;
+            registers
+                .first()
+                .map_or(false, |r| is_register(r, b"c", 0, 2, true))
+        );
+        assert!(rt;
+            registers
+                .last()
+                .map_or(false, |r| is_register(r, b"d", 2, 1, false))
+        );
+    }
+}
+
+const CLAIMS: &[u8] =
+    b"qubit q; bit[2] c;\n@invariant i\n@assert a\n@assert i\nwhile (!c[1]) {\n@assert b\nif (!c[0]) reset q; else measure q; }";
+
+#[test]
+fn claims_by_their_first_mention(rt: HostRuntime) {
+    assert!(rt; gives(&rt, CLAIMS, &[(b'a', 1, 3), (b'a', 0, 4), (b'w', 0, 5)]));
+    assert!(rt; gives_inside(&rt, CLAIMS, &[(b'a', 2, 6), (b'i', 0, 0)]));
+    let branch = b"qubit q; bit c; if (c == 1) reset q; else measure q;";
+    assert!(rt; gives(&rt, branch, &[(b'i', 0, 1)]));
+    assert!(rt; gives_inside(&rt, branch, &[(b'm', 0, 99)]));
+}
+
+#[test]
+fn names_of_claims(rt: HostRuntime) {
+    let found = elaborated(&rt, CLAIMS);
+    assert!(rt; found.is_ok());
+    if let Ok(program) = found {
+        let claims = program.claims.as_slice();
+        assert_eq!(rt; claims.len(), 3);
+        assert!(rt; claims.first().map_or(false, |claim| claim.is(b"i")));
+        assert!(rt; claims.last().map_or(false, |claim| claim.is(b"b")));
     }
 }
 
