@@ -21,15 +21,21 @@ const MOST_SETS: u64 = 4_194_304;
 /// Why a check stops before it judges.
 #[derive(Debug, Drop)]
 pub enum Stop {
+    /// The program's file could not be read.
     ProgramUnread,
+    /// The program's file is longer than `MOST_PROGRAM`.
     ProgramTooLong,
     /// The program's text says no program.
     ProgramRefused(ProgramFault),
     /// The program has a statement other than a gate.
     ProgramUnbuilt,
+    /// The sets' file could not be read.
     SetsUnread,
+    /// The sets' file is longer than `MOST_SETS`.
     SetsTooLong,
+    /// The sets' text isn't thin for the program's qubits.
     SetsUnbuilt,
+    /// Memory ran out.
     Memory,
 }
 

@@ -13,12 +13,15 @@ use std::alloc::Global;
 /// Why a text says no program: the first fault of its tokens, of their tree, or of its meaning.
 #[derive(Debug, Drop)]
 pub enum ProgramFault {
+    /// The text has no tokens.
     Lex(LexFault),
+    /// Its tokens have no tree.
     Parse(ParseFault),
+    /// Its tree means no program.
     Elab(ElabFault),
 }
 
-/// The program that a text says, or the first fault of the text.
+/// The program that a text says, or the first fault of the text. Want of memory is a fault that may come at any text.
 pub(crate) fn read_program(alloc: Global, source: &[u8]) -> Result<Program, ProgramFault>
     requires { length source.now ≤ 1048576 }
     ensures says { IfOk result (SaysProgram source.now) }
