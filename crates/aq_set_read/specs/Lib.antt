@@ -3,3 +3,9 @@ pub mod Cuts
 pub mod Fronts
 pub mod Told
 pub mod Listed
+pub mod Piece
+pub mod Words
+pub mod Pieces
+pub mod Tokens
+pub mod SetGrammar
+pub mod Reading

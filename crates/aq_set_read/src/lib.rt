@@ -1,18 +1,32 @@
-//! Files that name sets of quantum states: their tokens, with their places.
+//! Files that name sets of quantum states: their tokens and their syntax tree, with their places.
 #![tactic(auto)]
 
 mod fault;
 mod front;
 mod laws;
+mod lexeme;
+mod lexemes;
 mod lexer;
 mod list;
+mod mark;
+mod parse_fault;
+mod reader;
+mod scalars;
 mod scan;
+mod terms;
 #[cfg(test)]
 mod tests;
 mod token;
+mod tree;
+mod words;
 
 pub use fault::SetLexFault;
 pub use laws::set_cuts;
 pub use lexer::tokens_of_sets;
 pub use list::SetTokens;
+pub use parse_fault::SetParseFault;
 pub use token::{SetClass, SetKind, SetSymbol, SetToken};
+pub use tree::{
+    SetCase, SetCoef, SetCond, SetExpr, SetFactor, SetInt, SetItem, SetPart, SetPower, SetScalar,
+    SetTerm, SetTree, SetTurn, SetWord,
+};
