@@ -9,3 +9,10 @@ pub mod Pieces
 pub mod Tokens
 pub mod SetGrammar
 pub mod Reading
+pub mod Gathered
+pub mod Coefs
+pub mod Meaning
+pub mod Tables
+pub mod Vectors
+pub mod Sizes
+pub mod Valid

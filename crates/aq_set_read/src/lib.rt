@@ -8,11 +8,15 @@ mod lexeme;
 mod lexemes;
 mod lexer;
 mod list;
+mod made;
 mod mark;
+mod meaning;
 mod parse_fault;
 mod reader;
 mod scalars;
 mod scan;
+mod set_fault;
+mod sets;
 mod terms;
 #[cfg(test)]
 mod tests;
@@ -25,6 +29,8 @@ pub use laws::set_cuts;
 pub use lexer::tokens_of_sets;
 pub use list::SetTokens;
 pub use parse_fault::SetParseFault;
+pub use set_fault::SetFault;
+pub use sets::{Case, Cond, Expr, NamedClaim, NamedSet, Sets, Term};
 pub use token::{SetClass, SetKind, SetSymbol, SetToken};
 pub use tree::{
     SetCase, SetCoef, SetCond, SetExpr, SetFactor, SetInt, SetItem, SetPart, SetPower, SetScalar,
