@@ -5,7 +5,9 @@
 //! programs that only have gates.
 #![tactic(auto)]
 
+mod bound;
 mod kind;
 pub mod laws;
 
+pub use bound::{BoundCase, ClaimFault};
 pub use kind::Kind;

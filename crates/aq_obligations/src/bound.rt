@@ -1,0 +1,23 @@
+use aq_lex::Text;
+use aq_prog::Guard;
+use sqlite_items::Items;
+
+/// A case of a claim, with its bits looked up: the position of its expression, and the conditions under which it counts.
+#[derive(Debug, Drop)]
+pub struct BoundCase {
+    pub set: u32,
+    pub when: Items<Guard>,
+}
+
+/// Why a claim can't be judged of a program.
+#[derive(Debug, Drop)]
+pub enum ClaimFault {
+    /// No claim has this name.
+    UnknownClaim { name: Text },
+    /// A case of the claim is on `has` qubits, and the program on another number.
+    QubitsDiffer { name: Text, has: u32 },
+    /// A condition of the claim names no bit of the program by this name.
+    BitUnknown { name: Text, bit: Text },
+    /// Memory ran out.
+    Memory,
+}
