@@ -1,1 +1,3 @@
 pub mod GatesAloneProofs
+pub mod GatesOnlyProofs
+pub mod ZeroBits
