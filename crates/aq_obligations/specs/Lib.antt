@@ -4,3 +4,8 @@ pub mod Wide
 pub mod Worlds
 pub mod Correct
 pub mod GatesAlone
+pub mod Bound
+pub mod Asking
+pub mod Enough
+pub mod GatesOnly
+pub mod Qubits

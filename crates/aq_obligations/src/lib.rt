@@ -5,7 +5,12 @@
 //! programs that only have gates.
 #![tactic(auto)]
 
+mod bind;
+mod bound;
 mod kind;
 pub mod laws;
+mod qubits;
 
+pub use bind::ask;
+pub use bound::{AskedClaims, BoundCase, ClaimFault};
 pub use kind::Kind;

@@ -5,3 +5,7 @@ pub mod CutLaws
 pub mod CutLemmas
 pub mod CutSteps
 pub mod SomeCut
+pub mod Pieces
+pub mod Marks
+pub mod ScalarLaws
+pub mod TermLaws

@@ -3,3 +3,16 @@ pub mod Cuts
 pub mod Fronts
 pub mod Told
 pub mod Listed
+pub mod Piece
+pub mod Words
+pub mod Pieces
+pub mod Tokens
+pub mod SetGrammar
+pub mod Reading
+pub mod Gathered
+pub mod Coefs
+pub mod Meaning
+pub mod Tables
+pub mod Vectors
+pub mod Sizes
+pub mod Valid

@@ -1,18 +1,38 @@
-//! Files that name sets of quantum states: their tokens, with their places.
+//! Files that name sets of quantum states: their tokens and their syntax tree, with their places.
 #![tactic(auto)]
 
 mod fault;
 mod front;
 mod laws;
+mod lexeme;
+mod lexemes;
 mod lexer;
 mod list;
+mod made;
+mod mark;
+mod meaning;
+mod parse_fault;
+mod reader;
+mod scalars;
 mod scan;
+mod set_fault;
+mod sets;
+mod terms;
 #[cfg(test)]
 mod tests;
 mod token;
+mod tree;
+mod words;
 
 pub use fault::SetLexFault;
 pub use laws::set_cuts;
 pub use lexer::tokens_of_sets;
 pub use list::SetTokens;
+pub use parse_fault::SetParseFault;
+pub use set_fault::SetFault;
+pub use sets::{Case, Cond, Expr, NamedClaim, NamedSet, Sets, Term};
 pub use token::{SetClass, SetKind, SetSymbol, SetToken};
+pub use tree::{
+    SetCase, SetCoef, SetCond, SetExpr, SetFactor, SetInt, SetItem, SetPart, SetPower, SetScalar,
+    SetTerm, SetTree, SetTurn, SetWord,
+};

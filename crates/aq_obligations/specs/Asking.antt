@@ -1,0 +1,47 @@
+-- What a program without loops and claims inside owes, as its set file asks.
+use Rattle.std.specs.Prelude.{true, List, [], ◌++◌, map, None}
+use Rattle.std.specs.List.{flat_map}
+use Rattle.aq_ring.specs.Fractions.{Amplitude}
+use Rattle.aq_prog.specs.declared.program.Program.{Program}
+use Rattle.aq_set_read.specs.Vectors.{vectors_of, products_of}
+use Rattle.aq_set_read.specs.declared.sets.Sets.{Sets}
+use Rattle.aq_obligations.specs.Bound.{Asked}
+use Rattle.aq_obligations.specs.Claims.{ClaimCase}
+use Rattle.aq_obligations.specs.Correct.{Annotated}
+use Rattle.aq_obligations.specs.Obligations.{Obligation}
+use Rattle.aq_obligations.specs.declared.bound.BoundCase.{BoundCase}
+
+-- the case, with the vectors that its expression lists
+abbrev pub case_of : Sets → BoundCase → ClaimCase
+case_of s c = record { vectors = vectors_of s.exprs c.set; when = c.when }
+
+abbrev pub cases_of : Sets → List BoundCase → List ClaimCase
+cases_of s cases = map (case_of s) cases
+
+-- the products that the tensors and powers of the cases take
+abbrev pub products_in : Sets → List BoundCase → List (Amplitude × Amplitude)
+products_in s cases = flat_map (λ c. products_of s.exprs c.set) cases
+
+-- the program with its two claims
+abbrev pub annotated : Program → Sets → Asked → Annotated
+annotated p s a = record {
+  qubits = p.qubits;
+  bits = p.bits;
+  body = p.body;
+  claims = [];
+  precondition = cases_of s a.before;
+  postcondition = cases_of s a.after;
+}
+
+-- its one obligation, at its end
+abbrev pub obligation_at_end : Program → Sets → Asked → Obligation
+obligation_at_end p s a = record {
+  qubits = p.qubits;
+  bits = p.bits;
+  start = true;
+  assumed = cases_of s a.before;
+  given = None;
+  fragment = p.body;
+  goal = cases_of s a.after;
+  products = products_in s a.before ++ products_in s a.after;
+}

@@ -1,0 +1,67 @@
+-- What the items of a set file before a place have given, and computations that add to it or stop at the first fault.
+use Rattle.std.specs.Prelude.{◌≡◌, ℕ, suc, ◌+◌, Bool, List, [], ◌∷◌, Option, Some, None, Result, Ok, Err, nat_lt, if◌then◌else◌}
+use Rattle.std.specs.Str.{bytes_eq}
+use Rattle.aq_lex.specs.declared.place.Place.{Place}
+use Rattle.aq_set_read.specs.declared.made.Made.{Made}
+use Rattle.aq_set_read.specs.declared.sets.Expr.{Expr}
+use Rattle.aq_set_read.specs.declared.sets.NamedSet.{NamedSet}
+use Rattle.aq_set_read.specs.declared.sets.NamedClaim.{NamedClaim}
+use Rattle.aq_set_read.specs.declared.set_fault.SetFault.{SetFault}
+use Rattle.aq_set_read.specs.declared.set_fault.SetFault.TheVariants as faults
+
+-- The expressions, the number of nodes, and the names of sets and claims with what a set stands for.
+pub record Gathered : Type 0 where
+  pub exprs : List Expr
+  pub nodes : ℕ
+  pub names : List (List ℕ × Option Made)
+  pub sets : List NamedSet
+  pub claims : List NamedClaim
+
+abbrev pub nothing_gathered : Gathered
+nothing_gathered = record { exprs = []; nodes = 0; names = []; sets = []; claims = [] }
+
+-- what a name has, where it was given
+abbrev pub named : List (List ℕ × Option Made) → List ℕ → Option (Option Made)
+named [] name = None
+named (entry ∷ rest) name = if bytes_eq name entry.0 then Some entry.1 else named rest name
+
+-- the most qubits, nodes and names
+abbrev pub most_qubits : ℕ
+most_qubits = 16
+
+abbrev pub most_nodes : ℕ
+most_nodes = 100000
+
+abbrev pub most_names : ℕ
+most_names = 1000
+
+-- ---- checks, of which the first that fails tells the fault
+
+abbrev pub Checked : Type 0 → Type 0
+Checked A = Result A SetFault
+
+-- the fault where the test holds
+abbrev pub refuse_if : Bool → SetFault → Checked (Unit {0})
+refuse_if test fault = if test then Err fault else Ok tt
+
+infixl 10 ◌>>=◌
+abbrev pub ◌>>=◌ : {A B : Type 0} → Checked A → (A → Checked B) → Checked B
+(Ok x) >>= f = f x
+(Err e) >>= f = Err e
+
+-- the check, and then what follows
+infixr 9 ◌>>◌
+abbrev pub ◌>>◌ : {A : Type 0} → Checked (Unit {0}) → Checked A → Checked A
+(Ok u) >> next = next
+(Err e) >> next = Err e
+
+-- one node more; the fault is at this place
+abbrev pub counted : Place → Gathered → Checked Gathered
+counted at g = refuse_if (nat_lt most_nodes (suc g.nodes)) (faults.TooManyNodes at)
+    >> Ok (record { exprs = g.exprs; nodes = suc g.nodes; names = g.names; sets = g.sets; claims = g.claims })
+
+-- ---- what a function of the program answers: the same, unless memory ran out
+
+abbrev pub Gives : {A B : Type 0} → (B → A) → Result B SetFault → Checked A → Type 0
+Gives view (Ok x) wanted = wanted ≡ Ok (view x)
+Gives view (Err e) wanted = (e ≡ faults.Memory → ⊥) → wanted ≡ Err e

@@ -1,0 +1,27 @@
+/// A token of a set file that has one spelling: a reserved word or a sign. `End` is the end of the text.
+#[derive(Clone, Copy, Debug, PartialEq, Eq)]
+pub enum SetMark {
+    Set,
+    Claim,
+    When,
+    And,
+    Union,
+    All,
+    Omega,
+    Imaginary,
+    Root,
+    Assign,
+    Equals,
+    Semicolon,
+    Comma,
+    BracketOpen,
+    BracketClose,
+    ParenOpen,
+    ParenClose,
+    Star,
+    Caret,
+    Plus,
+    Minus,
+    Slash,
+    End,
+}
