@@ -9,3 +9,4 @@ pub mod Pieces
 pub mod Marks
 pub mod ScalarLaws
 pub mod TermLaws
+mod CoefLaws
