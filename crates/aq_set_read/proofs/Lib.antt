@@ -10,3 +10,4 @@ pub mod Marks
 pub mod ScalarLaws
 pub mod TermLaws
 mod CoefLaws
+mod CollectorLaws

@@ -16,3 +16,4 @@ pub mod Tables
 pub mod Vectors
 pub mod Sizes
 pub mod Valid
+pub mod Bounds

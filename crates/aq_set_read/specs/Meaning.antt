@@ -191,36 +191,39 @@ naming name g =
     refuse_if (nat_lt most_names (suc (length g.names))) (faults.TooManyNames name.at)
     >> refuse_if (is_some (named g.names name.text)) (faults.TwiceNamed name.at)
 
-abbrev pub with_set : SetWord → Step Made → Gathered
+abbrev pub with_set : List ℕ → Step Made → Gathered
 with_set name s = record {
   exprs = s.gathered.exprs;
   nodes = s.gathered.nodes;
-  names = s.gathered.names ++ (name.text, Some s.value) ∷ [];
-  sets = s.gathered.sets ++ record { name = name.text; expr = s.value.expr } ∷ [];
+  names = s.gathered.names ++ (name, Some s.value) ∷ [];
+  sets = s.gathered.sets ++ record { name = name; expr = s.value.expr } ∷ [];
   claims = s.gathered.claims;
 }
 
-abbrev pub with_claim : SetWord → List Case → Gathered → Gathered
+abbrev pub with_claim : List ℕ → List Case → Gathered → Gathered
 with_claim name cases g = record {
   exprs = g.exprs;
   nodes = g.nodes;
-  names = g.names ++ (name.text, None) ∷ [];
+  names = g.names ++ (name, None) ∷ [];
   sets = g.sets;
-  claims = g.claims ++ record { name = name.text; cases = cases } ∷ [];
+  claims = g.claims ++ record { name = name; cases = cases } ∷ [];
 }
 
 abbrev pub item_taken : SetItem → Gathered → Checked Gathered
-item_taken (items.Set name e) g = naming name g >> (meaning e g >>= λ s. Ok (with_set name s))
+item_taken (items.Set name e) g = naming name g >> (meaning e g >>= λ s. Ok (with_set name.text s))
 item_taken (items.Claim name cases) g =
     naming name g
     >> (cases_made cases g >>= λ s.
     same_qubits (first_qubits s.value) cases s.value
-    >> Ok (with_claim name (cases_of cases s.value) s.gathered))
+    >> Ok (with_claim name.text (cases_of cases s.value) s.gathered))
 
 abbrev pub items_taken : List SetItem → Gathered → Checked Gathered
 items_taken [] g = Ok g
 items_taken (x ∷ xs) g = item_taken x g >>= items_taken xs
 
+abbrev pub sets_in : Gathered → Sets
+sets_in g = record { exprs = g.exprs; sets = g.sets; claims = g.claims }
+
 -- What a set file's tree says, or its first fault.
 unfoldable pub sets_of : SetTree → Checked Sets
-sets_of tree = items_taken tree.items nothing_gathered >>= λ g. Ok (record { exprs = g.exprs; sets = g.sets; claims = g.claims })
+sets_of tree = items_taken tree.items nothing_gathered >>= λ g. Ok (sets_in g)
