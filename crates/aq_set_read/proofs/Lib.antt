@@ -11,3 +11,4 @@ pub mod ScalarLaws
 pub mod TermLaws
 mod CoefLaws
 mod CollectorLaws
+mod BracketLaws

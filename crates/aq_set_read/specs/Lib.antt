@@ -17,3 +17,4 @@ pub mod Vectors
 pub mod Sizes
 pub mod Valid
 pub mod Bounds
+pub mod Parts

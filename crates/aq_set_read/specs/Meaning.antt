@@ -70,20 +70,24 @@ abbrev pub most_roots : ℕ
 most_roots = 4294967295
 
 abbrev pub stands_in : List Term → ℕ → Bool
-stands_in terms index = list_any (λ t. t.index == index) terms
+stands_in terms index = list_any (λ t. index == t.index) terms
+
+-- a term behind others
+abbrev pub term_behind : List Term → SetTerm → List Term
+term_behind earlier t = earlier ++ record { index = index_of t; amp = amplitude_of t.minus t.coef } ∷ []
 
 -- a term of a bracket of n qubits, behind others
-unfoldable pub term_taken : ℕ → List Term → SetTerm → Gathered → Checked (Step Term)
+unfoldable pub term_taken : ℕ → List Term → SetTerm → Gathered → Checked (Step (List Term))
 term_taken n earlier t g =
     refuse_if (nat_lt most_roots (roots_of t.coef)) (faults.AmpTooWide t.at)
     >> refuse_if (nat_lt most_qubits n) (faults.QubitCount t.ket.at)
     >> refuse_if (not (ket_length t == n)) (faults.KetLength t.ket.at)
     >> refuse_if (stands_in earlier (index_of t)) (faults.RepeatedKet t.ket.at)
-    >> (counted t.ket.at g >>= λ h. Ok (step h (record { index = index_of t; amp = amplitude_of t.minus t.coef })))
+    >> (counted t.ket.at g >>= λ h. Ok (step h (term_behind earlier t)))
 
 abbrev pub terms_taken : ℕ → List Term → List SetTerm → Gathered → Checked (Step (List Term))
 terms_taken n earlier [] g = Ok (step g earlier)
-terms_taken n earlier (t ∷ ts) g = term_taken n earlier t g >>= λ s. terms_taken n (earlier ++ s.value ∷ []) ts s.gathered
+terms_taken n earlier (t ∷ ts) g = term_taken n earlier t g >>= λ s. terms_taken n s.value ts s.gathered
 
 -- the first ket tells the number of qubits
 abbrev pub bracket_qubits : List SetTerm → ℕ

@@ -2,6 +2,7 @@
 #![tactic(auto)]
 
 mod amplitudes;
+mod brackets;
 mod collector;
 mod fault;
 mod front;
