@@ -11,4 +11,5 @@ pub mod ScalarLaws
 pub mod TermLaws
 mod CoefLaws
 mod CollectorLaws
+mod CheckLaws
 mod BracketLaws

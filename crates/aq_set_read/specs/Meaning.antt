@@ -72,9 +72,12 @@ most_roots = 4294967295
 abbrev pub stands_in : List Term → ℕ → Bool
 stands_in terms index = list_any (λ t. index == t.index) terms
 
+abbrev pub term_of : SetTerm → Term
+term_of t = record { index = index_of t; amp = amplitude_of t.minus t.coef }
+
 -- a term behind others
 abbrev pub term_behind : List Term → SetTerm → List Term
-term_behind earlier t = earlier ++ record { index = index_of t; amp = amplitude_of t.minus t.coef } ∷ []
+term_behind earlier t = earlier ++ term_of t ∷ []
 
 -- a term of a bracket of n qubits, behind others
 unfoldable pub term_taken : ℕ → List Term → SetTerm → Gathered → Checked (Step (List Term))

@@ -134,3 +134,45 @@ fn take_term(
     let index = binary(digits);
     add_term(collector, earlier, at, Term { index, amp })
 }
+
+/// Takes the terms of a bracket of so many qubits.
+fn take_terms(
+    alloc: Global,
+    collector: &mut Collector,
+    qubits: usize,
+    terms: &[SetTerm],
+) -> Result<Items<Term>, SetFault>
+    ensures { Gives (λ t. step collector.new t) result (terms_taken qubits [] terms.now collector.old) }
+{
+    let mut taken = Terms::new(alloc);
+    for term in terms {
+        taken = take_term(collector, qubits, taken, term)?;
+    }
+    Ok(taken.into_list())
+}
+
+/// How many digits the first ket has, which is the number of qubits.
+fn bracket_qubits(terms: &[SetTerm]) -> usize
+    ensures { result ≡ bracket_qubits terms.now }
+{
+    match terms.first() {
+        Some(first) => digits_of(first.ket.text.as_slice()).len(),
+        None => 0,
+    }
+}
+
+/// Puts a bracket together.
+#[tactic(auto, unfolding(crate::specs::Meaning::bracket_made))]
+pub(crate) fn bracket(
+    alloc: Global,
+    collector: &mut Collector,
+    at: Place,
+    terms: &[SetTerm],
+) -> Result<Made, SetFault>
+    ensures { Gives (λ m. step collector.new m) result (bracket_made at terms.now collector.old) }
+{
+    let qubits = bracket_qubits(terms);
+    let terms = take_terms(alloc, collector, qubits, terms)?;
+    let qubits = qubits as u32;
+    collector.node(at, false, Expr::Kets { qubits, terms }, qubits)
+}
