@@ -174,5 +174,5 @@ pub(crate) fn bracket(
     let qubits = bracket_qubits(terms);
     let terms = take_terms(alloc, collector, qubits, terms)?;
     let qubits = qubits as u32;
-    collector.node(at, false, Expr::Kets { qubits, terms }, qubits)
+    collector.node(at, Expr::Kets { qubits, terms }, qubits)
 }

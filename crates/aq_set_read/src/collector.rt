@@ -1,5 +1,5 @@
 //! What the items of a set file before a place have given.
-ghost use Rattle.std.specs.Prelude.{◌≡◌, None, IfErr, OnOk};
+ghost use Rattle.std.specs.Prelude.{◌≡◌, false, None, IfErr, OnOk};
 ghost use Rattle.aq_set_read.specs.Gathered.{Gives, nothing_gathered, counted, named, with_name};
 ghost use Rattle.aq_set_read.specs.Meaning.{node, step, name_made, naming, with_set, with_claim, sets_in};
 ghost use Rattle.aq_set_read.specs.declared.set_fault.SetFault.TheVariants as faults;
@@ -60,19 +60,10 @@ impl Collector {
         Ok(())
     }
 
-    /// Puts an expression behind the others, unless its qubits are refused, and counts it. A fault is at this place.
-    pub(crate) fn node(
-        &mut self,
-        at: Place,
-        refused: bool,
-        expr: Expr,
-        qubits: u32,
-    ) -> Result<Made, SetFault>
-        ensures { Gives (λ m. step self.new m) result (node at refused expr qubits self.old) }
+    /// Puts an expression behind the others and counts it. The fault is at this place.
+    pub(crate) fn node(&mut self, at: Place, expr: Expr, qubits: u32) -> Result<Made, SetFault>
+        ensures { Gives (λ m. step self.new m) result (node at false expr qubits self.old) }
     {
-        if refused {
-            return Err(SetFault::QubitCount { at });
-        }
         if self.nodes >= 100_000 {
             return Err(SetFault::TooManyNodes { at });
         }

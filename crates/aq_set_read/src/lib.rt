@@ -15,6 +15,7 @@ mod list;
 mod made;
 mod mark;
 mod meaning;
+mod operators;
 mod parse_fault;
 mod reader;
 mod scalars;
