@@ -10,8 +10,10 @@ use Rattle.aq_set_read.specs.declared.tree.SetWord.{SetWord}
 use Rattle.aq_set_read.specs.declared.tree.SetTerm.{SetTerm}
 use Rattle.aq_set_read.specs.declared.tree.SetPower.{SetPower}
 use Rattle.aq_set_read.specs.declared.tree.SetExpr.{SetExpr}
+use Rattle.aq_set_read.specs.declared.tree.SetFactor.{SetFactor}
+use Rattle.aq_set_read.specs.declared.tree.SetPart.{SetPart}
 use Rattle.aq_set_read.specs.declared.tree.SetExpr.TheOpen.{SetExpr-F, SetFactor-F, SetPart-F}
-use Rattle.aq_set_read.specs.declared.tree.SetExpr.TheFolds.{fold-SetExpr}
+use Rattle.aq_set_read.specs.declared.tree.SetExpr.TheFolds.{fold-SetExpr, fold-SetFactor, fold-SetPart}
 use Rattle.aq_set_read.specs.declared.tree.SetCond.{SetCond}
 use Rattle.aq_set_read.specs.declared.tree.SetCase.{SetCase}
 use Rattle.aq_set_read.specs.declared.tree.SetItem.{SetItem}
@@ -165,6 +167,13 @@ part_step p = record { at = p.at; run = p.expr }
 
 abbrev pub meaning : SetExpr → Meaning
 meaning = fold-SetExpr Meaning Operand Operand expr_step factor_step part_step
+
+-- an operand of a product, and of a union
+abbrev pub factor_of : SetFactor → Operand
+factor_of = fold-SetFactor Meaning Operand Operand expr_step factor_step part_step
+
+abbrev pub part_of : SetPart → Operand
+part_of = fold-SetPart Meaning Operand Operand expr_step factor_step part_step
 
 -- ---- items
 

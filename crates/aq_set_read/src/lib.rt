@@ -4,6 +4,7 @@
 mod amplitudes;
 mod brackets;
 mod collector;
+mod expressions;
 mod fault;
 mod front;
 mod kets;
