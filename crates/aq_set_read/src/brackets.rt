@@ -101,7 +101,8 @@ fn add_term(
     at: Place,
     term: Term,
 ) -> Result<Terms, SetFault>
-    ensures { Gives (λ t. step collector.new t) result (term_counted at earlier term collector.old) }
+    ensures meaning { Gives (λ t. step collector.new t) result (term_counted at earlier term collector.old) }
+    ensures names { collector.new.names ≡ collector.old.names }
 {
     let terms = earlier.with(at, term)?;
     collector.count(at)?;
@@ -116,7 +117,8 @@ fn take_term(
     earlier: Terms,
     term: &SetTerm,
 ) -> Result<Terms, SetFault>
-    ensures { Gives (λ t. step collector.new t) result (term_taken qubits earlier term.now collector.old) }
+    ensures meaning { Gives (λ t. step collector.new t) result (term_taken qubits earlier term.now collector.old) }
+    ensures names { collector.new.names ≡ collector.old.names }
 {
     let at = term.ket.at;
     let roots = roots_within(term)?;
@@ -142,7 +144,8 @@ fn take_terms(
     qubits: usize,
     terms: &[SetTerm],
 ) -> Result<Items<Term>, SetFault>
-    ensures { Gives (λ t. step collector.new t) result (terms_taken qubits [] terms.now collector.old) }
+    ensures meaning { Gives (λ t. step collector.new t) result (terms_taken qubits [] terms.now collector.old) }
+    ensures names { collector.new.names ≡ collector.old.names }
 {
     let mut taken = Terms::new(alloc);
     for term in terms {
@@ -169,7 +172,8 @@ pub(crate) fn bracket(
     at: Place,
     terms: &[SetTerm],
 ) -> Result<Made, SetFault>
-    ensures { Gives (λ m. step collector.new m) result (bracket_made at terms.now collector.old) }
+    ensures meaning { Gives (λ m. step collector.new m) result (bracket_made at terms.now collector.old) }
+    ensures names { collector.new.names ≡ collector.old.names }
 {
     let qubits = bracket_qubits(terms);
     let terms = take_terms(alloc, collector, qubits, terms)?;

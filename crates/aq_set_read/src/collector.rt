@@ -51,7 +51,8 @@ impl Collector {
 
     /// Counts a node. The fault is at this place.
     pub(crate) fn count(&mut self, at: Place) -> Result<(), SetFault>
-        ensures { Gives (λ u. self.new) result (counted at self.old) }
+        ensures meaning { Gives (λ u. self.new) result (counted at self.old) }
+        ensures names { self.new.names ≡ self.old.names }
     {
         if self.nodes >= 100_000 {
             return Err(SetFault::TooManyNodes { at });
@@ -62,7 +63,8 @@ impl Collector {
 
     /// Puts an expression behind the others and counts it. The fault is at this place.
     pub(crate) fn node(&mut self, at: Place, expr: Expr, qubits: u32) -> Result<Made, SetFault>
-        ensures { Gives (λ m. step self.new m) result (node at false expr qubits self.old) }
+        ensures meaning { Gives (λ m. step self.new m) result (node at false expr qubits self.old) }
+        ensures names { self.new.names ≡ self.old.names }
     {
         if self.nodes >= 100_000 {
             return Err(SetFault::TooManyNodes { at });

@@ -1,5 +1,5 @@
 //! Expressions, inner parts before outer ones and left ones before right ones.
-ghost use Rattle.std.specs.Prelude.{map};
+ghost use Rattle.std.specs.Prelude.{◌≡◌, map};
 ghost use Rattle.aq_set_read.specs.Gathered.{Gives};
 ghost use Rattle.aq_set_read.specs.Meaning.{step, meaning, factor_of, part_of, chained, tensored, united};
 
@@ -18,7 +18,8 @@ pub(crate) fn expression(
     collector: &mut Collector,
     expr: &SetExpr,
 ) -> Result<Made, SetFault>
-    ensures { Gives (λ m. step collector.new m) result (meaning expr.now collector.old) }
+    ensures meaning { Gives (λ m. step collector.new m) result (meaning expr.now collector.old) }
+    ensures names { collector.new.names ≡ collector.old.names }
 {
     match expr {
         SetExpr::Bracket { at, terms } => bracket(alloc, collector, *at, terms.as_slice()),
@@ -36,7 +37,8 @@ fn factor(
     collector: &mut Collector,
     factor: &SetFactor,
 ) -> Result<Made, SetFault>
-    ensures { Gives (λ m. step collector.new m) result ((factor_of factor.now).run collector.old) }
+    ensures meaning { Gives (λ m. step collector.new m) result ((factor_of factor.now).run collector.old) }
+    ensures names { collector.new.names ≡ collector.old.names }
 {
     let base = expression(alloc, collector, &factor.expr)?;
     power(collector, base, factor.power)
@@ -49,7 +51,8 @@ fn tensors(
     collector: &mut Collector,
     factors: &[SetFactor],
 ) -> Result<Made, SetFault>
-    ensures { Gives (λ m. step collector.new m) result (chained tensored (map factor_of factors.now) collector.old) }
+    ensures meaning { Gives (λ m. step collector.new m) result (chained tensored (map factor_of factors.now) collector.old) }
+    ensures names { collector.new.names ≡ collector.old.names }
 {
     let Some((first, rest)) = factors.split_first() else {
         return Err(SetFault::Memory);
@@ -69,7 +72,8 @@ fn unions(
     collector: &mut Collector,
     parts: &[SetPart],
 ) -> Result<Made, SetFault>
-    ensures { Gives (λ m. step collector.new m) result (chained united (map part_of parts.now) collector.old) }
+    ensures meaning { Gives (λ m. step collector.new m) result (chained united (map part_of parts.now) collector.old) }
+    ensures names { collector.new.names ≡ collector.old.names }
 {
     let Some((first, rest)) = parts.split_first() else {
         return Err(SetFault::Memory);

@@ -23,7 +23,8 @@ fn qubits_within(number: u128) -> Option<u32>
 /// All basis states of so many qubits.
 #[tactic(auto, unfolding(crate::specs::Meaning::all_made))]
 pub(crate) fn all(collector: &mut Collector, at: Place, number: u128) -> Result<Made, SetFault>
-    ensures { Gives (λ m. step collector.new m) result (all_made at number collector.old) }
+    ensures meaning { Gives (λ m. step collector.new m) result (all_made at number collector.old) }
+    ensures names { collector.new.names ≡ collector.old.names }
 {
     let Some(qubits) = qubits_within(number) else {
         return Err(SetFault::QubitCount { at });
@@ -37,7 +38,8 @@ pub(crate) fn power(
     base: Made,
     power: Option<SetPower>,
 ) -> Result<Made, SetFault>
-    ensures { Gives (λ m. step collector.new m) result (powered power (step collector.old base)) }
+    ensures meaning { Gives (λ m. step collector.new m) result (powered power (step collector.old base)) }
+    ensures names { collector.new.names ≡ collector.old.names }
 {
     let Some(power) = power else {
         return Ok(base);
@@ -64,7 +66,8 @@ pub(crate) fn tensor(
     left: Made,
     right: Made,
 ) -> Result<Made, SetFault>
-    ensures { Gives (λ m. step collector.new m) result (tensored at left right collector.old) }
+    ensures meaning { Gives (λ m. step collector.new m) result (tensored at left right collector.old) }
+    ensures names { collector.new.names ≡ collector.old.names }
 {
     let qubits = u64::from(left.qubits) + u64::from(right.qubits);
     if qubits > 16 {
@@ -84,7 +87,8 @@ pub(crate) fn union(
     left: Made,
     right: Made,
 ) -> Result<Made, SetFault>
-    ensures { Gives (λ m. step collector.new m) result (united at left right collector.old) }
+    ensures meaning { Gives (λ m. step collector.new m) result (united at left right collector.old) }
+    ensures names { collector.new.names ≡ collector.old.names }
 {
     if left.qubits != right.qubits {
         return Err(SetFault::QubitCount { at });

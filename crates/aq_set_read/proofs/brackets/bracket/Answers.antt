@@ -6,5 +6,5 @@ use Rattle.aq_set_read.proofs.brackets.bracket.Goals as goal
 
 pub overflow_cast-qubits : goal.overflow_cast-qubits
 overflow_cast-qubits c =
-    let few = few_qubits c.args.terms.now c.args.collector.now _ (ap (λ (n : ℕ). terms_taken n [] c.args.terms.now c.args.collector.now) (sym c.bracket_qubits-qubits.ensures) ∙ c.in_ok-terms.ensures) in
+    let few = few_qubits c.args.terms.now c.args.collector.now _ (ap (λ (n : ℕ). terms_taken n [] c.args.terms.now c.args.collector.now) (sym c.bracket_qubits-qubits.ensures) ∙ c.in_ok-terms.ensures.meaning) in
     omega (arith, few, c.bracket_qubits-qubits.ensures)
