@@ -183,10 +183,10 @@ cond_of c = record { bit = c.name.text; index = c.index; value = c.value }
 abbrev pub case_of : SetCase → Made → Case
 case_of c m = record { set = m.expr; when = map cond_of c.when }
 
--- the expressions of a claim's cases in order
-abbrev pub cases_made : List SetCase → Gathered → Checked (Step (List Made))
-cases_made [] g = Ok (step g [])
-cases_made (c ∷ cs) g = meaning c.expr g >>= λ s. cases_made cs s.gathered >>= λ r. Ok (step r.gathered (s.value ∷ r.value))
+-- the expressions of a claim's cases in order, behind those of earlier cases
+abbrev pub cases_made : List Made → List SetCase → Gathered → Checked (Step (List Made))
+cases_made made [] g = Ok (step g made)
+cases_made made (c ∷ cs) g = meaning c.expr g >>= λ s. cases_made (made ++ s.value ∷ []) cs s.gathered
 
 -- all have n qubits; the fault is at the first token of the first case that hasn't
 abbrev pub same_qubits : ℕ → List SetCase → List Made → Checked (Unit {0})
@@ -229,7 +229,7 @@ abbrev pub item_taken : SetItem → Gathered → Checked Gathered
 item_taken (items.Set name e) g = naming name g >> (meaning e g >>= λ s. Ok (with_set name.text s))
 item_taken (items.Claim name cases) g =
     naming name g
-    >> (cases_made cases g >>= λ s.
+    >> (cases_made [] cases g >>= λ s.
     same_qubits (first_qubits s.value) cases s.value
     >> Ok (with_claim name.text (cases_of cases s.value) s.gathered))
 

@@ -99,7 +99,8 @@ impl Collector {
     /// Whether there is room for a name that no item has.
     #[tactic(auto, unfolding(crate::specs::Meaning::naming))]
     pub(crate) fn naming(&self, name: &SetWord) -> Result<(), SetFault>
-        ensures { Gives (λ u. u) result (naming name.now self.now) }
+        ensures naming { Gives (λ u. u) result (naming name.now self.now) }
+        ensures absent { OnOk result (named self.now.names name.now.text ≡ None) }
     {
         if self.names.len() >= 1000 {
             return Err(SetFault::TooManyNames { at: name.at });

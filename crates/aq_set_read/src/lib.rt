@@ -3,6 +3,7 @@
 
 mod amplitudes;
 mod brackets;
+mod claims;
 mod collector;
 mod expressions;
 mod fault;
