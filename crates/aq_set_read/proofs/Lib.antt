@@ -13,3 +13,5 @@ mod CoefLaws
 mod CollectorLaws
 mod CheckLaws
 mod BracketLaws
+mod TableLaws
+mod QubitLaws

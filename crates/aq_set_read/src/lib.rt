@@ -24,6 +24,7 @@ mod scalars;
 mod scan;
 mod set_fault;
 mod sets;
+mod sizes;
 mod terms;
 #[cfg(test)]
 mod tests;
@@ -37,6 +38,7 @@ pub use lexer::tokens_of_sets;
 pub use list::SetTokens;
 pub use parse_fault::SetParseFault;
 pub use set_fault::SetFault;
+pub use sizes::{qubits, qubits_of_all};
 pub use sets::{Case, Cond, Expr, NamedClaim, NamedSet, Sets, Term};
 pub use token::{SetClass, SetKind, SetSymbol, SetToken};
 pub use tree::{
