@@ -9,3 +9,7 @@ pub mod Pieces
 pub mod Marks
 pub mod ScalarLaws
 pub mod TermLaws
+pub mod Layers
+pub mod ChainLaws
+pub mod ExprLaws
+pub mod FileLaws

@@ -1,8 +1,10 @@
 //! Files that name sets of quantum states: their tokens and their syntax tree, with their places.
 #![tactic(auto)]
 
+mod exprs;
 mod fault;
 mod front;
+mod items;
 mod laws;
 mod lexeme;
 mod lexemes;
