@@ -2,11 +2,11 @@
 use Rattle.std.proofs.Common.{◌≡◌, ◌<◌, List, [], ◌∷◌, length, Result, Ok, Option, Some, Bool, true, false, refl, ap, subst, ◌∙◌}
 use Rattle.std.specs.Prelude.{◌||◌}
 use Rattle.aq_lex.specs.declared.place.Place.{Place}
-use Rattle.aq_grammar.specs.Words.{Joined, ◌⨾◌, first_or, IsMany, IsPlaced}
+use Rattle.aq_grammar.specs.Words.{◌⨾◌, first_or, IsMany, IsPlaced}
 use Rattle.aq_grammar.specs.Readers.{after, many, front_and_more}
 use Rattle.aq_grammar.specs.Laws.{Both}
 use Rattle.aq_grammar.proofs.Reading.{Mapped}
-use Rattle.aq_grammar.proofs.Parts.{either, not_right, many_next, next_of, longer, one_long}
+use Rattle.aq_grammar.proofs.Parts.{not_right, many_next, longer, one_long}
 use Rattle.aq_set_read.specs.Piece.{SetPiece}
 use Rattle.aq_set_read.specs.Tokens.{is_sort, is_mark, sort_of, shows, begins, IsMark, mark_at, place_of}
 use Rattle.aq_set_read.specs.SetGrammar.{IsChain}

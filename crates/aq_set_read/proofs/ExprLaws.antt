@@ -2,8 +2,8 @@
 use Rattle.std.proofs.Common.{◌≡◌, ℕ, zero, suc, ◌<◌, List, [], ◌∷◌, length, Result, Ok, Option, Some, None, Bool, true, false, refl, ap, subst, ◌∙◌, arith}
 use Rattle.std.specs.Prelude.{◌||◌, is_some}
 use Rattle.aq_lex.specs.declared.place.Place.{Place}
-use Rattle.aq_grammar.specs.Words.{Joined, ◌⨾◌, first_or, IsOptional, IsMany, IsPlaced}
-use Rattle.aq_grammar.specs.Readers.{after, optional, switch, refuse}
+use Rattle.aq_grammar.specs.Words.{◌⨾◌, first_or, IsOptional}
+use Rattle.aq_grammar.specs.Readers.{after, optional}
 use Rattle.aq_grammar.specs.Laws.{Both}
 use Rattle.aq_grammar.proofs.Reading.{Mapped, Placed, Switched, refuse-Reads}
 use Rattle.aq_grammar.proofs.Ends.{refuse_keeps}
@@ -11,8 +11,7 @@ use Rattle.aq_grammar.proofs.Parts.{Part, nothing, mapped_part, optional_part, p
 use Rattle.aq_set_read.specs.Piece.{SetPiece}
 use Rattle.aq_set_read.specs.Tokens.{is_mark, sort_of, shows, begins, IsMark, mark_at, IsName, place_of}
 use Rattle.aq_set_read.specs.SetGrammar.{IsBracket, IsAll, IsAtom, IsPowerOf, IsPower, IsChain, IsTensor, IsUnion, IsGroup, IsExpr}
-use Rattle.aq_set_read.specs.Reading.{opening_of, opening_in, bracket_of, all_of, named_of, atom_by, atom_at, power_at, powered_at, link_at, factor_of, factors_at, tensor_of, tensor_at, part_of, parts_at, union_of, union_at, inside_at, group_at, expr_at}
-use Rattle.aq_set_read.specs.declared.mark.SetMark.{SetMark}
+use Rattle.aq_set_read.specs.Reading.{opening_of, opening_in, bracket_of, all_of, named_of, vector_at, basis_at, named_at, atom_by, atom_at, power_at, powered_at, link_at, factor_of, factors_at, tensor_of, tensor_at, part_of, parts_at, union_of, union_at, inside_at, group_at, expr_at}
 use Rattle.aq_set_read.specs.declared.mark.SetMark.TheVariants as marks
 use Rattle.aq_set_read.specs.declared.lexeme.SetSort.{SetSort}
 use Rattle.aq_set_read.specs.declared.lexeme.SetSort.TheVariants as sorts
@@ -69,7 +68,7 @@ some_long (t ∷ ts) e = omega arith
 pub union_long : (G : SetExpr → List SetPiece → Type 0) → Opens G → (x : SetExpr) (front : List SetPiece) → IsUnion G x front → 0 < length front
 union_long G opens x front l = some_long front (union_first G opens is_some true refl refl refl refl x front None l)
 
-tensor_long : (G : SetExpr → List SetPiece → Type 0) → Opens G → (x : SetExpr) (front : List SetPiece) → IsTensor G x front → 0 < length front
+pub tensor_long : (G : SetExpr → List SetPiece → Type 0) → Opens G → (x : SetExpr) (front : List SetPiece) → IsTensor G x front → 0 < length front
 tensor_long G opens x front l = some_long front (tensor_first G opens is_some true refl refl refl refl x front None l)
 
 abbrev pub IsPowered : (SetExpr → List SetPiece → Type 0) → SetExpr × Option SetPower → List SetPiece → Type 0
@@ -85,6 +84,15 @@ bracket_long xs front l = longer front l (one_long (is_mark marks.BracketOpen) l
 
 all_long : (k : ℕ) (front : List SetPiece) → IsAll k front → 0 < length front
 all_long k front l = longer front l (one_long (is_mark marks.All) l.a l.left)
+
+pub vector_part : Part Others last vector_at (Mapped bracket_of (Placed place_of IsBracket)) nothing
+vector_part = mapped_part bracket_of (placed_part place_of bracket_part bracket_long)
+
+pub basis_part : Part Others last basis_at (Mapped all_of (Placed place_of IsAll)) nothing
+basis_part = mapped_part all_of (placed_part place_of all_part all_long)
+
+pub named_part : Part Others last named_at (Mapped named_of IsName) nothing
+named_part = mapped_part named_of name_part
 
 abbrev pub AtomBy : (SetExpr → List SetPiece → Type 0) → Opening → SetExpr → List SetPiece → Type 0
 AtomBy G openings.Bracket = Mapped bracket_of (Placed place_of IsBracket)
@@ -120,10 +128,10 @@ expr_goes_on s = shows marks.Union s || tensor_goes_on s
 
 module _ (group : List SetPiece → Result (SetExpr × List SetPiece) (Fault × List SetPiece)) (G H : SetExpr → List SetPiece → Type 0) (layer : Layer last group G H nothing) (opens : (x : SetExpr) (front : List SetPiece) (n : Option SetPiece) → G x front → sort_of (first_or front n) ≡ Some (sorts.Fixed marks.ParenOpen)) where
   atom_layers : (k : Opening) → Layer last (atom_by group k) (AtomBy G k) (AtomBy H k) nothing
-  atom_layers openings.Bracket = flat (mapped_part bracket_of (placed_part place_of bracket_part bracket_long))
-  atom_layers openings.All = flat (mapped_part all_of (placed_part place_of all_part all_long))
+  atom_layers openings.Bracket = flat vector_part
+  atom_layers openings.All = flat basis_part
   atom_layers openings.Group = layer
-  atom_layers openings.Name = flat (mapped_part named_of name_part)
+  atom_layers openings.Name = flat named_part
 
   atom_begins : (k : Opening) (x : SetExpr) (front : List SetPiece) (n : Option SetPiece) → AtomBy G k x front → opening_of (first_or front n) ≡ k
   atom_begins openings.Bracket x front n l = ap opening_in (after_mark marks.BracketOpen front n l.spelled.0)
@@ -151,8 +159,8 @@ module _ (group : List SetPiece → Result (SetExpr × List SetPiece) (Fault × 
   tensor_layer = renamed_layer (mapped_layer tensor_of factors_layer)
       (λ x front l. subst (λ (y : SetExpr). IsTensor G y front) l.is (IsTensor.tensor l.from front l.spelled)) (tensor_from G)
       (λ x front l. subst (λ (y : SetExpr). IsTensor H y front) l.is (IsTensor.tensor l.from front l.spelled)) where
-    tensor_from : (K : SetExpr → List SetPiece → Type 0) (x : SetExpr) (front : List SetPiece) → IsTensor K x front → Mapped tensor_of (IsChain marks.Star (λ x. x.at) (IsPower K)) x front
-    tensor_from K _ _ (IsTensor.tensor factors front l) = record { from = factors; is = refl; spelled = l }
+        tensor_from : (K : SetExpr → List SetPiece → Type 0) (x : SetExpr) (front : List SetPiece) → IsTensor K x front → Mapped tensor_of (IsChain marks.Star (λ x. x.at) (IsPower K)) x front
+        tensor_from K _ _ (IsTensor.tensor factors front l) = record { from = factors; is = refl; spelled = l }
 
   parts_layer : Layer last (parts_at group) (IsChain marks.Union (λ x. x.at) (λ x. IsTensor G x.expr)) (IsChain marks.Union (λ x. x.at) (λ x. IsTensor H x.expr)) (λ n. expr_goes_on (sort_of n))
   unfolding parts_at
@@ -166,8 +174,8 @@ module _ (group : List SetPiece → Result (SetExpr × List SetPiece) (Fault × 
   union_layer = renamed_layer (mapped_layer union_of parts_layer)
       (λ x front l. subst (λ (y : SetExpr). IsUnion G y front) l.is (IsUnion.union l.from front l.spelled)) (union_from G)
       (λ x front l. subst (λ (y : SetExpr). IsUnion H y front) l.is (IsUnion.union l.from front l.spelled)) where
-    union_from : (K : SetExpr → List SetPiece → Type 0) (x : SetExpr) (front : List SetPiece) → IsUnion K x front → Mapped union_of (IsChain marks.Union (λ x. x.at) (λ x. IsTensor K x.expr)) x front
-    union_from K _ _ (IsUnion.union parts front l) = record { from = parts; is = refl; spelled = l }
+        union_from : (K : SetExpr → List SetPiece → Type 0) (x : SetExpr) (front : List SetPiece) → IsUnion K x front → Mapped union_of (IsChain marks.Union (λ x. x.at) (λ x. IsTensor K x.expr)) x front
+        union_from K _ _ (IsUnion.union parts front l) = record { from = parts; is = refl; spelled = l }
 
   pub inside_layer : Layer last (inside_at group) (λ x. IsMark marks.ParenOpen ⨾ IsUnion G x ⨾ IsMark marks.ParenClose) (λ x. IsMark marks.ParenOpen ⨾ IsUnion H x ⨾ IsMark marks.ParenClose) nothing
   unfolding inside_at

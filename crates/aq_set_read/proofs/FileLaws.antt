@@ -1,28 +1,25 @@
 -- The readers of cases, items and files read their rules of the grammar.
-use Rattle.std.proofs.Common.{◌≡◌, ℕ, zero, suc, ◌<◌, List, [], ◌∷◌, ◌++◌, length, Result, Ok, Option, Some, None, Bool, true, false, refl, ap, subst, ◌∙◌, inl, inr}
+use Rattle.std.proofs.Common.{◌≡◌, ℕ, suc, ◌<◌, List, length, Ok, Option, Some, Bool, true, false, refl, ap, subst, ◌∙◌, inl, inr}
 use Rattle.std.specs.Prelude.{◌||◌, not}
-use Rattle.aq_lex.specs.declared.place.Place.{Place}
 use Rattle.aq_grammar.specs.Words.{Joined, ◌⨾◌, first_or, IsMany}
 use Rattle.aq_grammar.specs.Readers.{mapped, after, before, many}
-use Rattle.aq_grammar.specs.Laws.{In, Reads, Both, ManyIn}
+use Rattle.aq_grammar.specs.Laws.{In, Reads, Both}
 use Rattle.aq_grammar.proofs.Reading.{Mapped, Either, OneIn, one-Reads, BeforeIn, before-Reads, same-Reads, renamed}
-use Rattle.aq_grammar.proofs.Parts.{nothing, either, not_left, not_right, stricter, next_of, longer, one_long, many_next}
+use Rattle.aq_grammar.proofs.Parts.{nothing, either, not_left, not_right, stricter, next_of, longer, one_long}
 use Rattle.aq_set_read.specs.Piece.{SetPiece}
 use Rattle.aq_set_read.specs.Tokens.{is_mark, sort_of, shows, begins, IsMark, mark_at, place_of}
-use Rattle.aq_set_read.specs.SetGrammar.{IsUnion, IsGroup, IsExpr, IsWhen, IsCase, IsCases, IsHead, IsItem, IsFile}
+use Rattle.aq_set_read.specs.SetGrammar.{IsGroup, IsExpr, IsWhen, IsCase, IsCases, IsHead, IsItem, IsFile}
 use Rattle.aq_set_read.specs.Reading.{case_of, case_at, cases_at, set_of, set_at, claim_of, claim_at, item_at, goes_on, tree_of, file_at}
 use Rattle.aq_set_read.specs.declared.mark.SetMark.{SetMark}
 use Rattle.aq_set_read.specs.declared.mark.SetMark.TheVariants as marks
 use Rattle.aq_set_read.specs.declared.lexeme.SetSort.{SetSort}
 use Rattle.aq_set_read.specs.declared.lexeme.SetSort.TheVariants as sorts
-use Rattle.aq_set_read.specs.declared.reader.Fault.{Fault}
 use Rattle.aq_set_read.specs.declared.reader.Fault.TheVariants as faults
 use Rattle.aq_set_read.specs.declared.tree.SetWord.{SetWord}
 use Rattle.aq_set_read.specs.declared.tree.SetCond.{SetCond}
 use Rattle.aq_set_read.specs.declared.tree.SetExpr.{SetExpr}
 use Rattle.aq_set_read.specs.declared.tree.SetCase.{SetCase}
 use Rattle.aq_set_read.specs.declared.tree.SetItem.{SetItem}
-use Rattle.aq_set_read.specs.declared.tree.SetItem.TheVariants as items
 use Rattle.aq_set_read.specs.declared.tree.SetTree.{SetTree}
 use Rattle.aq_set_read.proofs.Marks.{like, like_mark, last, mark_part, mark_next, after_mark}
 use Rattle.aq_set_read.proofs.TermLaws.{when_goes_on, when_part, when_next, head_part}

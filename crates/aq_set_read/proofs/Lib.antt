@@ -13,3 +13,7 @@ pub mod Layers
 pub mod ChainLaws
 pub mod ExprLaws
 pub mod FileLaws
+pub mod Deepening
+pub mod Endings
+pub mod Ways
+pub mod Judged

@@ -9,3 +9,5 @@ pub mod Pieces
 pub mod Tokens
 pub mod SetGrammar
 pub mod Reading
+pub mod Places
+pub mod Verdict

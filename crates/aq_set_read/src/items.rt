@@ -232,10 +232,7 @@ const DEEPEST: u32 = 64;
 
 /// A set file, and nothing behind it.
 #[tactic(auto, unfolding(crate::specs::Reading::whole_at))]
-pub(crate) fn whole<'a>(
-    alloc: Global,
-    tokens: &'a [SetLexeme<'a>],
-) -> Result<SetTree, Halt<'a>>
+pub(crate) fn whole<'a>(alloc: Global, tokens: &'a [SetLexeme<'a>]) -> Result<SetTree, Halt<'a>>
     ensures { Gives (λ tree. (tree, [])) result (whole_at 64 tokens.now) }
 {
     let (tree, rest) = file(alloc, tokens, DEEPEST)?;

@@ -12,6 +12,7 @@ mod lexer;
 mod list;
 mod mark;
 mod parse_fault;
+mod parser;
 mod reader;
 mod scalars;
 mod scan;
@@ -23,10 +24,11 @@ mod tree;
 mod words;
 
 pub use fault::SetLexFault;
-pub use laws::set_cuts;
+pub use laws::{set_cuts, set_trees};
 pub use lexer::tokens_of_sets;
 pub use list::SetTokens;
 pub use parse_fault::SetParseFault;
+pub use parser::parse_sets;
 pub use token::{SetClass, SetKind, SetSymbol, SetToken};
 pub use tree::{
     SetCase, SetCoef, SetCond, SetExpr, SetFactor, SetInt, SetItem, SetPart, SetPower, SetScalar,
