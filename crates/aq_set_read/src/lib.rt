@@ -21,6 +21,8 @@ mod terms;
 mod tests;
 mod token;
 mod tree;
+#[cfg(test)]
+mod tree_tests;
 mod words;
 
 pub use fault::SetLexFault;
