@@ -15,3 +15,11 @@ mod CheckLaws
 mod BracketLaws
 mod TableLaws
 mod QubitLaws
+pub mod Layers
+pub mod ChainLaws
+pub mod ExprLaws
+pub mod FileLaws
+pub mod Deepening
+pub mod Endings
+pub mod Ways
+pub mod Judged

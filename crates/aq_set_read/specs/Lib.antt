@@ -18,3 +18,5 @@ pub mod Sizes
 pub mod Valid
 pub mod Bounds
 pub mod Parts
+pub mod Places
+pub mod Verdict

@@ -4,7 +4,7 @@ ghost use Rattle.aq_set_read.specs.Gathered.{Gives};
 ghost use Rattle.aq_set_read.specs.Meaning.{step, cond_of, cases_made, same_qubits, first_qubits, cases_of};
 
 use crate::collector::Collector;
-use crate::expressions::expression;
+use crate::make_exprs::make_expr;
 use crate::made::Made;
 use crate::set_fault::SetFault;
 use crate::sets::{Case, Cond};
@@ -46,7 +46,7 @@ pub(crate) fn cases_made(
 {
     let mut made = Items::new(alloc);
     for case in cases {
-        made.push(expression(alloc, collector, &case.expr)?)?;
+        made.push(make_expr(alloc, collector, &case.expr)?)?;
     }
     Ok(made)
 }

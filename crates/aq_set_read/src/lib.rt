@@ -5,9 +5,10 @@ mod amplitudes;
 mod brackets;
 mod claims;
 mod collector;
-mod expressions;
 mod fault;
 mod front;
+mod exprs;
+mod items;
 mod kets;
 mod laws;
 mod lexeme;
@@ -15,10 +16,12 @@ mod lexemes;
 mod lexer;
 mod list;
 mod made;
+mod make_exprs;
 mod mark;
 mod meaning;
 mod operators;
 mod parse_fault;
+mod parser;
 mod reader;
 mod scalars;
 mod scan;
@@ -30,16 +33,19 @@ mod terms;
 mod tests;
 mod token;
 mod tree;
+#[cfg(test)]
+mod tree_tests;
 mod words;
 
 pub use fault::SetLexFault;
-pub use laws::set_cuts;
+pub use laws::{set_cuts, set_trees};
 pub use lexer::tokens_of_sets;
 pub use list::SetTokens;
 pub use parse_fault::SetParseFault;
+pub use parser::parse_sets;
 pub use set_fault::SetFault;
-pub use sizes::{qubits, qubits_of_all};
 pub use sets::{Case, Cond, Expr, NamedClaim, NamedSet, Sets, Term};
+pub use sizes::{qubits, qubits_of_all};
 pub use token::{SetClass, SetKind, SetSymbol, SetToken};
 pub use tree::{
     SetCase, SetCoef, SetCond, SetExpr, SetFactor, SetInt, SetItem, SetPart, SetPower, SetScalar,

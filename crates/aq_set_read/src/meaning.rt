@@ -6,7 +6,7 @@ ghost use Rattle.aq_set_read.specs.declared.tree.SetItem.TheVariants as items;
 
 use crate::claims::{cases_made, cases_of, same_qubits};
 use crate::collector::Collector;
-use crate::expressions::expression;
+use crate::make_exprs::make_expr;
 use crate::set_fault::SetFault;
 use crate::sets::Sets;
 use crate::tree::{SetCase, SetExpr, SetItem, SetTree, SetWord};
@@ -22,7 +22,7 @@ fn set(
     ensures { Gives (λ u. collector.new) result (item_taken (items.Set name.now expr.now) collector.old) }
 {
     collector.naming(name)?;
-    let made = expression(alloc, collector, expr)?;
+    let made = make_expr(alloc, collector, expr)?;
     collector.add_set(alloc, &name.text, made)
 }
 

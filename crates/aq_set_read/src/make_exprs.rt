@@ -12,8 +12,8 @@ use crate::tree::{SetExpr, SetFactor, SetPart};
 use std::alloc::Global;
 
 /// Puts an expression together.
-#[cycle(expressions)]
-pub(crate) fn expression(
+#[cycle(making)]
+pub(crate) fn make_expr(
     alloc: Global,
     collector: &mut Collector,
     expr: &SetExpr,
@@ -25,14 +25,14 @@ pub(crate) fn expression(
         SetExpr::Bracket { at, terms } => bracket(alloc, collector, *at, terms.as_slice()),
         SetExpr::All { at, number } => all(collector, *at, *number),
         SetExpr::Name(name) => collector.name_made(name),
-        SetExpr::Tensor(factors) => tensors(alloc, collector, factors.as_slice()),
-        SetExpr::Union(parts) => unions(alloc, collector, parts.as_slice()),
+        SetExpr::Tensor(factors) => make_tensors(alloc, collector, factors.as_slice()),
+        SetExpr::Union(parts) => make_unions(alloc, collector, parts.as_slice()),
     }
 }
 
 /// Puts an operand of a product together, with its power.
-#[cycle(expressions)]
-fn factor(
+#[cycle(making)]
+fn make_factor(
     alloc: Global,
     collector: &mut Collector,
     factor: &SetFactor,
@@ -40,13 +40,13 @@ fn factor(
     ensures meaning { Gives (λ m. step collector.new m) result ((factor_of factor.now).run collector.old) }
     ensures names { collector.new.names ≡ collector.old.names }
 {
-    let base = expression(alloc, collector, &factor.expr)?;
+    let base = make_expr(alloc, collector, &factor.expr)?;
     power(collector, base, factor.power)
 }
 
 /// Puts a product together, from the left to the right. There is at least one operand.
-#[cycle(expressions)]
-fn tensors(
+#[cycle(making)]
+fn make_tensors(
     alloc: Global,
     collector: &mut Collector,
     factors: &[SetFactor],
@@ -57,17 +57,17 @@ fn tensors(
     let Some((first, rest)) = factors.split_first() else {
         return Err(SetFault::Memory);
     };
-    let mut left = factor(alloc, collector, first)?;
+    let mut left = make_factor(alloc, collector, first)?;
     for next in rest {
-        let right = factor(alloc, collector, next)?;
+        let right = make_factor(alloc, collector, next)?;
         left = tensor(collector, next.at, left, right)?;
     }
     Ok(left)
 }
 
 /// Puts a union together, from the left to the right. There is at least one operand.
-#[cycle(expressions)]
-fn unions(
+#[cycle(making)]
+fn make_unions(
     alloc: Global,
     collector: &mut Collector,
     parts: &[SetPart],
@@ -78,9 +78,9 @@ fn unions(
     let Some((first, rest)) = parts.split_first() else {
         return Err(SetFault::Memory);
     };
-    let mut left = expression(alloc, collector, &first.expr)?;
+    let mut left = make_expr(alloc, collector, &first.expr)?;
     for next in rest {
-        let right = expression(alloc, collector, &next.expr)?;
+        let right = make_expr(alloc, collector, &next.expr)?;
         left = union(collector, next.at, left, right)?;
     }
     Ok(left)
