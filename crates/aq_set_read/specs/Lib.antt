@@ -20,3 +20,4 @@ pub mod Bounds
 pub mod Parts
 pub mod Places
 pub mod Verdict
+pub mod Texts
