@@ -4,8 +4,8 @@ ghost use Rattle.aq_set_read.specs.Gathered.{Gives};
 ghost use Rattle.aq_set_read.specs.Meaning.{step, cond_of, cases_made, same_qubits, first_qubits, cases_of};
 
 use crate::collector::Collector;
-use crate::make_exprs::make_expr;
 use crate::made::Made;
+use crate::make_exprs::make_expr;
 use crate::set_fault::SetFault;
 use crate::sets::{Case, Cond};
 use crate::tree::{SetCase, SetCond};

@@ -14,6 +14,12 @@ use sqlite_items::Items;
 use std::alloc::Global;
 use std::marker::Model;
 
+/// The most terms, brackets, `all`, powers, products and unions of a file.
+const MOST_NODES: u32 = 100_000;
+
+/// The most sets and claims of a file.
+const MOST_NAMES: usize = 1000;
+
 /// The expressions, the number of nodes, and the names of sets and claims with what a set stands for.
 #[derive(Drop)]
 pub(crate) struct Collector {
@@ -54,7 +60,7 @@ impl Collector {
         ensures meaning { Gives (λ u. self.new) result (counted at self.old) }
         ensures names { self.new.names ≡ self.old.names }
     {
-        if self.nodes >= 100_000 {
+        if self.nodes >= MOST_NODES {
             return Err(SetFault::TooManyNodes { at });
         }
         self.nodes += 1;
@@ -66,7 +72,7 @@ impl Collector {
         ensures meaning { Gives (λ m. step self.new m) result (node at false expr qubits self.old) }
         ensures names { self.new.names ≡ self.old.names }
     {
-        if self.nodes >= 100_000 {
+        if self.nodes >= MOST_NODES {
             return Err(SetFault::TooManyNodes { at });
         }
         let place = self.exprs.len() as u32;
@@ -102,7 +108,7 @@ impl Collector {
         ensures naming { Gives (λ u. u) result (naming name.now self.now) }
         ensures absent { OnOk result (named self.now.names name.now.text ≡ None) }
     {
-        if self.names.len() >= 1000 {
+        if self.names.len() >= MOST_NAMES {
             return Err(SetFault::TooManyNames { at: name.at });
         }
         if self.named(&name.text).is_some() {
@@ -112,12 +118,7 @@ impl Collector {
     }
 
     /// Adds a name that isn't there. The only fault is want of memory.
-    fn add_name(
-        &mut self,
-        alloc: Global,
-        name: &Text,
-        made: Option<Made>,
-    ) -> Result<(), SetFault>
+    fn add_name(&mut self, alloc: Global, name: &Text, made: Option<Made>) -> Result<(), SetFault>
         requires { named self.old.names name.now ≡ None }
         ensures added { OnOk result (self.new ≡ with_name name.now made self.old) }
         ensures memory { IfErr result (λ e. e ≡ faults.Memory) }
@@ -130,12 +131,7 @@ impl Collector {
     }
 
     /// Adds a set whose name isn't there. The only fault is want of memory.
-    pub(crate) fn add_set(
-        &mut self,
-        alloc: Global,
-        name: &Text,
-        made: Made,
-    ) -> Result<(), SetFault>
+    pub(crate) fn add_set(&mut self, alloc: Global, name: &Text, made: Made) -> Result<(), SetFault>
         requires { named self.old.names name.now ≡ None }
         ensures added { OnOk result (self.new ≡ with_set name.now (step self.old made)) }
         ensures memory { IfErr result (λ e. e ≡ faults.Memory) }

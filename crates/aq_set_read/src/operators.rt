@@ -45,6 +45,7 @@ pub(crate) fn power(
         return Ok(base);
     };
     let at = power.at;
+    // So many copies have no qubits or more than 16.
     if power.number > 16 {
         return Err(SetFault::QubitCount { at });
     }
