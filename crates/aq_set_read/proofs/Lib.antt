@@ -9,3 +9,17 @@ pub mod Pieces
 pub mod Marks
 pub mod ScalarLaws
 pub mod TermLaws
+mod CoefLaws
+mod CollectorLaws
+mod CheckLaws
+mod BracketLaws
+mod TableLaws
+mod QubitLaws
+pub mod Layers
+pub mod ChainLaws
+pub mod ExprLaws
+pub mod FileLaws
+pub mod Deepening
+pub mod Endings
+pub mod Ways
+pub mod Judged

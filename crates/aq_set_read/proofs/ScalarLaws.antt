@@ -1,16 +1,15 @@
 -- The readers of coefficients read their rules of the grammar.
-use Rattle.std.proofs.Common.{◌≡◌, ℕ, ◌<◌, List, [], ◌∷◌, ◌++◌, length, Option, Some, None, Bool, true, false, refl, sym, ap, subst, ◌∙◌, append_assoc, arith, length-append, inl, inr}
+use Rattle.std.proofs.Common.{◌≡◌, ℕ, List, [], ◌++◌, Option, Some, None, Bool, true, false, refl, sym, ap, subst, ◌∙◌, inl, inr}
 use Rattle.std.specs.Prelude.{◌||◌, is_some}
 use Rattle.std.proofs.lemmas.List.{append-nil}
-use Rattle.aq_grammar.specs.Words.{Joined, ◌⨾◌, first_or, IsOptional}
+use Rattle.aq_grammar.specs.Words.{◌⨾◌, first_or, IsOptional}
 use Rattle.aq_grammar.specs.Laws.{Both}
 use Rattle.aq_grammar.proofs.Reading.{Mapped, Either}
-use Rattle.aq_grammar.proofs.Parts.{Part, nothing, either, not_right, renamed_part, stricter, mapped_part, same_part, both_part, after_part, before_part, optional_part, then_optional_part, choice_part, next_of}
+use Rattle.aq_grammar.proofs.Parts.{Part, nothing, not_right, renamed_part, stricter, mapped_part, same_part, both_part, after_part, before_part, optional_part, then_optional_part, choice_part, next_of}
 use Rattle.aq_set_read.specs.Piece.{SetPiece}
-use Rattle.aq_set_read.specs.Tokens.{sort_of, shows, begins, begins_number, shows_number, IsMark, mark_at, IsNumber}
+use Rattle.aq_set_read.specs.Tokens.{sort_of, shows, begins, begins_number, shows_number, IsMark, IsNumber}
 use Rattle.aq_set_read.specs.SetGrammar.{IsSign, IsInt, IsNextInt, or_one, IsExponent, IsScalar, IsRoots, IsCoef}
 use Rattle.aq_set_read.specs.Reading.{sign_at, int_of, int_at, exponent_at, maybe_exponent_at, omega_of, omega_at, imaginary_of, imaginary_at, turn_at, begins_turn, counted_of, counted_at, turned_of, next_int_at, quadruple_of, quadruple_at, uncounted_at, scalar_at, roots_at, coef_of, coef_at}
-use Rattle.aq_set_read.specs.declared.mark.SetMark.{SetMark}
 use Rattle.aq_set_read.specs.declared.mark.SetMark.TheVariants as marks
 use Rattle.aq_set_read.specs.declared.lexeme.SetSort.{SetSort}
 use Rattle.aq_set_read.specs.declared.lexeme.SetSort.TheVariants as sorts

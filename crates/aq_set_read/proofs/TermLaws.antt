@@ -1,15 +1,15 @@
 -- The readers of brackets, powers and conditions read their rules of the grammar.
-use Rattle.std.proofs.Common.{◌≡◌, ℕ, ◌<◌, List, [], ◌∷◌, length, Result, Ok, Option, Some, None, Bool, true, false, refl, ap, subst, ◌∙◌, arith, length-append}
+use Rattle.std.proofs.Common.{◌≡◌, ℕ, ◌<◌, List, [], ◌∷◌, length, Ok, Option, Some, None, Bool, true, false, refl, ap, subst, ◌∙◌, arith, length-append}
 use Rattle.std.specs.Prelude.{◌||◌, not}
 use Rattle.aq_lex.specs.declared.place.Place.{Place}
-use Rattle.aq_grammar.specs.Words.{Joined, ◌⨾◌, first_or, IsOptional, IsMany, IsSeparated}
+use Rattle.aq_grammar.specs.Words.{◌⨾◌, first_or, IsOptional, IsMany, IsSeparated}
 use Rattle.aq_grammar.specs.Readers.{after, optional, front_and_more}
 use Rattle.aq_grammar.specs.Laws.{Both}
 use Rattle.aq_grammar.proofs.Reading.{Mapped, Placed}
-use Rattle.aq_grammar.proofs.Parts.{Part, nothing, either, renamed_part, mapped_part, same_part, both_part, after_part, before_part, optional_part, many_part, part_goes, separated_part, one_more_goes, placed_part, next_of, longer, one_long, token_long}
+use Rattle.aq_grammar.proofs.Parts.{Part, nothing, renamed_part, mapped_part, same_part, both_part, after_part, before_part, optional_part, many_part, part_goes, separated_part, one_more_goes, placed_part, next_of, longer, one_long, token_long}
 use Rattle.aq_set_read.specs.Piece.{SetPiece}
-use Rattle.aq_set_read.specs.Tokens.{is_mark, sort_of, shows, shows_ket, shows_sign, begins, begins_sign, IsMark, mark_at, IsName, IsKet, ket_of, minus_of, name_of, place_of}
-use Rattle.aq_set_read.specs.SetGrammar.{IsSign, IsExponent, IsCoef, IsFirstTerm, IsLaterTerm, IsTerms, IsBracket, IsAll, IsPowerOf, IsIndex, IsCond, IsWhen, IsHead}
+use Rattle.aq_set_read.specs.Tokens.{is_mark, sort_of, shows, shows_ket, shows_sign, begins, begins_sign, IsMark, mark_at, IsKet, ket_of, minus_of, place_of}
+use Rattle.aq_set_read.specs.SetGrammar.{IsExponent, IsCoef, IsFirstTerm, IsLaterTerm, IsTerms, IsBracket, IsAll, IsPowerOf, IsIndex, IsCond, IsWhen, IsHead}
 use Rattle.aq_set_read.specs.Reading.{coef_at, no_ket, term_at, signed_of, first_term_at, later_term_at, terms_at, bracket_at, all_at, power_of, power_at, index_at, cond_of, cond_at, conds_at, listed, when_at, head_at}
 use Rattle.aq_set_read.specs.declared.mark.SetMark.{SetMark}
 use Rattle.aq_set_read.specs.declared.mark.SetMark.TheVariants as marks
@@ -19,7 +19,7 @@ use Rattle.aq_set_read.specs.declared.tree.SetWord.{SetWord}
 use Rattle.aq_set_read.specs.declared.tree.SetCoef.{SetCoef}
 use Rattle.aq_set_read.specs.declared.tree.SetTerm.{SetTerm}
 use Rattle.aq_set_read.specs.declared.tree.SetCond.{SetCond}
-use Rattle.aq_set_read.proofs.Marks.{like, Others, last, mark_part, name_part, ket_part, number_part, value_part, plus_or_minus_part, mark_next, ket_next, sign_next, after_mark, after_name, optional_then}
+use Rattle.aq_set_read.proofs.Marks.{like, Others, last, mark_part, name_part, ket_part, number_part, value_part, plus_or_minus_part, mark_next, ket_next, sign_next, after_mark, optional_then}
 use Rattle.aq_set_read.proofs.ScalarLaws.{sign_goes_on, sign_part, exponent_part, coef_goes_on, coef_part, coef_next}
 
 -- ---- terms

@@ -16,3 +16,8 @@ pub mod Tables
 pub mod Vectors
 pub mod Sizes
 pub mod Valid
+pub mod Bounds
+pub mod Parts
+pub mod Places
+pub mod Verdict
+pub mod Texts

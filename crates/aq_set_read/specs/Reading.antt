@@ -165,11 +165,20 @@ all_of v = exprs.All v.0 v.1
 abbrev pub named_of : SetWord → SetExpr
 named_of word = exprs.Name word
 
+abbrev pub vector_at : Read SetExpr
+vector_at = mapped bracket_of (placed place_of bracket_at)
+
+abbrev pub basis_at : Read SetExpr
+basis_at = mapped all_of (placed place_of all_at)
+
+abbrev pub named_at : Read SetExpr
+named_at = mapped named_of name_at
+
 abbrev pub atom_by : Inner → Opening → Read SetExpr
-atom_by group openings.Bracket = mapped bracket_of (placed place_of bracket_at)
-atom_by group openings.All = mapped all_of (placed place_of all_at)
+atom_by group openings.Bracket = vector_at
+atom_by group openings.All = basis_at
 atom_by group openings.Group = group
-atom_by group openings.Name = mapped named_of name_at
+atom_by group openings.Name = named_at
 
 unfoldable pub atom_at : Inner → Read SetExpr
 atom_at group = switch opening_of (atom_by group)

@@ -9,7 +9,6 @@ use Rattle.aq_set_read.specs.declared.mark.SetMark.{SetMark}
 use Rattle.aq_set_read.specs.declared.mark.SetMark.TheVariants as marks
 use Rattle.aq_set_read.specs.declared.tree.SetWord.{SetWord}
 use Rattle.aq_set_read.specs.declared.tree.SetInt.{SetInt}
-use Rattle.aq_set_read.specs.declared.tree.SetTurn.{SetTurn}
 use Rattle.aq_set_read.specs.declared.tree.SetTurn.TheVariants as turns
 use Rattle.aq_set_read.specs.declared.tree.SetScalar.{SetScalar}
 use Rattle.aq_set_read.specs.declared.tree.SetScalar.TheVariants as scalars

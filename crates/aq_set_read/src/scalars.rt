@@ -12,9 +12,7 @@ use crate::tree::{SetCoef, SetInt, SetScalar, SetTurn};
 
 /// Whether there is a minus, which may be left out.
 #[tactic(auto, unfolding(crate::specs::Reading::sign_at, aq_grammar::specs::Readers::mapped, aq_grammar::specs::Readers::optional))]
-pub(crate) fn sign<'a>(
-    tokens: &'a [SetLexeme<'a>],
-) -> Result<(bool, &'a [SetLexeme<'a>]), Halt<'a>>
+pub(crate) fn sign<'a>(tokens: &'a [SetLexeme<'a>]) -> Result<(bool, &'a [SetLexeme<'a>]), Halt<'a>>
     ensures { Gives (λ x. (x.0, x.1.now)) result (sign_at tokens.now) }
 {
     if starts(tokens, SetMark::Minus) {
@@ -44,9 +42,7 @@ pub(crate) fn exponent<'a>(
 
 /// An exponent, which is 1 where it is not written.
 #[tactic(auto, unfolding(crate::specs::Reading::maybe_exponent_at, aq_grammar::specs::Readers::mapped, aq_grammar::specs::Readers::optional))]
-fn maybe_exponent<'a>(
-    tokens: &'a [SetLexeme<'a>],
-) -> Result<(u128, &'a [SetLexeme<'a>]), Halt<'a>>
+fn maybe_exponent<'a>(tokens: &'a [SetLexeme<'a>]) -> Result<(u128, &'a [SetLexeme<'a>]), Halt<'a>>
     ensures { Gives (λ x. (x.0, x.1.now)) result (maybe_exponent_at tokens.now) }
 {
     if starts(tokens, SetMark::Caret) {

@@ -68,15 +68,9 @@ pub struct SetPower {
 #[derive(Debug, Drop)]
 pub enum SetExpr {
     /// One vector, by its terms, of which there is at least one. It stands at its `[`.
-    Bracket {
-        at: Place,
-        terms: Items<SetTerm>,
-    },
+    Bracket { at: Place, terms: Items<SetTerm> },
     /// All basis states. It stands at its `all`.
-    All {
-        at: Place,
-        number: u128,
-    },
+    All { at: Place, number: u128 },
     /// A set by its name.
     Name(SetWord),
     Tensor(Items<SetFactor>),
