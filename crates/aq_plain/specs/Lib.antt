@@ -1,2 +1,4 @@
 pub mod Vectors
 pub mod Wide
+pub mod Caps
+pub mod ValidExprs

@@ -5,6 +5,7 @@ mod apply;
 mod places;
 mod project;
 mod row;
+mod sizes;
 #[cfg(test)]
 mod tests;
 mod vector;
@@ -12,4 +13,5 @@ mod vector;
 pub use apply::apply_plain;
 pub use project::project_plain;
 pub use row::WideSum;
+pub use sizes::{Size, sizes_of};
 pub use vector::Vector;
