@@ -6,3 +6,6 @@ pub mod ExprLaws
 pub mod CapLaws
 pub mod SizeLaws
 pub mod ToldLaws
+pub mod RowLaws
+pub mod PartLaws
+pub mod TakeLaws

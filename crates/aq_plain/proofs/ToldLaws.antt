@@ -47,6 +47,17 @@ done_at exprs done i j s lt e less is =
     is ∙ ap (λ t. get_or t j s) e ∙ get_or-map capped_size (table size_step (take i exprs)) j no_size s (omega arith)
     ∙ ap capped_size (earlier size_step no_size exprs i j (omega arith) less)
 
+pub length-told : (exprs : List Expr) (list : List told.Size) → list ≡ capped_sizes exprs → length list ≡ length exprs
+unfolding capped_sizes
+length-told exprs list e = ap length e ∙ length-map (table size_step exprs) capped_size ∙ length-table size_step exprs
+
+pub told_at : (exprs : List Expr) (list : List told.Size) (i : ℕ) (s : told.Size) → list ≡ capped_sizes exprs → i < length exprs → s ≡ get_or list i s
+    → s ≡ capped_size (size_of exprs i)
+unfolding capped_sizes size_of
+told_at exprs list i s e lt is =
+    let n = length-table size_step exprs in
+    is ∙ ap (λ t. get_or t i s) e ∙ get_or-map capped_size (table size_step exprs) i no_size s (omega arith)
+
 pub sizes_none : [] ≡ capped_sizes []
 unfolding capped_sizes
 sizes_none = refl

@@ -2,3 +2,4 @@ pub mod Vectors
 pub mod Wide
 pub mod Caps
 pub mod ValidExprs
+pub mod Listing
