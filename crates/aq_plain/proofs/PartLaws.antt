@@ -1,20 +1,23 @@
 -- Work that is put off: the positions of expressions, of which the last comes first.
-use Rattle.std.proofs.Common.{◌≡◌, ℕ, zero, suc, ◌+◌, ◌*◌, ◌<◌, ◌≤◌, Bool, true, false, cond, eqb, List, [], ◌∷◌, ◌++◌, Some, length, refl, sym, ap, ◌∙◌, subst, arith}
+use Rattle.std.proofs.Common.{◌≡◌, ℕ, zero, suc, ◌+◌, ◌*◌, ◌<◌, ◌≤◌, Bool, true, false, cond, eqb, List, [], ◌∷◌, ◌++◌, Some, length, get_or, take, refl, sym, ap, ◌∙◌, subst, arith}
 use Rattle.std.proofs.Common.{eqb-true}
 use Rattle.std.specs.Prelude.{slice_get}
 use Rattle.std.specs.List.{All}
-use Rattle.std.proofs.lemmas.List.{append_assoc, append-nil}
+use Rattle.std.proofs.lemmas.List.{append_assoc, append-nil, take_more, take_all}
 use Rattle.std.proofs.lemmas.List.Elements.{All-nil, All-cons, All-append, All-pop}
 use Rattle.std.proofs.lemmas.Option.{slice_get_within, same_Some}
 use Rattle.std.proofs.lemmas.Bool.{eqb-false}
-use Rattle.aq_set_read.specs.Vectors.{Listed, nothing_listed, united, power, lists}
+use Rattle.aq_set_read.specs.Vectors.{Vector, Listed, nothing_listed, listed, united, power, tensors, all_pairs, kets_vector, basis, lists}
 use Rattle.aq_set_read.specs.Sizes.{Size, size_of}
 use Rattle.aq_set_read.specs.Valid.{IsValidExpr}
+use Rattle.aq_set_read.specs.declared.sets.Term.{Term}
 use Rattle.aq_set_read.specs.declared.sets.Expr.{Expr}
 use Rattle.aq_set_read.specs.declared.sets.Expr.TheVariants as expr
 use Rattle.aq_plain.specs.ValidExprs.{AreValidExprs}
-use Rattle.aq_plain.specs.Listing.{lists_in_turn, IsWhole, IsPartOf, opened, kept}
+use Rattle.aq_plain.specs.Listing.{lists_in_turn, IsWhole, IsPartOf, opened, kept, AllFit, StopsAmong}
+use Rattle.aq_plain.specs.declared.stop.VectorStop.{VectorStop}
 use Rattle.aq_plain.proofs.ExprLaws.{listed_by, size_by, lists-is, size-is}
+use Rattle.aq_plain.proofs.TakeLaws.{fit_none, fit_append, fit_same, fit_power, stops_left, stops_right, stops_same, stops_power, stops_power_of, power_vectors}
 
 -- what the work lists that is put off, from the last position to the first
 abbrev pub pending : List Expr → List ℕ → Listed
@@ -154,3 +157,100 @@ two_times exprs valid i base times h whole =
 
 pub popped_below : (top : ℕ) (old new : List ℕ) (i : ℕ) → old ≡ new ++ i ∷ [] → All (λ j. j ≤ top) old → All (λ j. j ≤ top) new × (i ≤ top)
 popped_below top old new i e h = All-pop (λ j. j ≤ top) old new (Some i) e h
+
+-- ---- steps of the loop over the parts
+
+pub in_turn_more : (exprs : List Expr) (parts : List ℕ) (i : ℕ) → i < length parts
+    → united (lists_in_turn exprs (take i parts)) (lists exprs (get_or parts i 0)) ≡ lists_in_turn exprs (take (i + 1) parts)
+in_turn_more exprs parts i lt =
+    ap (united (lists_in_turn exprs (take i parts))) (sym (united_none (lists exprs (get_or parts i 0))))
+    ∙ sym (ap (lists_in_turn exprs) (take_more parts i 0 lt) ∙ in_turn-append exprs (take i parts) (get_or parts i 0 ∷ []))
+
+pub in_turn_all : (exprs : List Expr) (parts : List ℕ) (i : ℕ) → length parts ≤ i → lists_in_turn exprs (take i parts) ≡ lists_in_turn exprs parts
+in_turn_all exprs parts i le = ap (lists_in_turn exprs) (take_all i parts le)
+
+pub stops_in_turn : (exprs : List Expr) (parts : List ℕ) (i : ℕ) (e : VectorStop) → i < length parts
+    → StopsAmong (lists exprs (get_or parts i 0)).products e → StopsAmong (lists_in_turn exprs parts).products e
+stops_in_turn exprs [] i e lt h = absurd (omega arith)
+stops_in_turn exprs (p ∷ ps) zero e lt h = stops_left (lists exprs p).products (lists_in_turn exprs ps).products e h
+stops_in_turn exprs (p ∷ ps) (suc i) e lt h =
+    stops_right (lists exprs p).products (lists_in_turn exprs ps).products e (stops_in_turn exprs ps i e (omega arith) h)
+
+-- ---- what a part lists
+
+pub few_kets : (exprs : List Expr) → AreValidExprs exprs → (i q : ℕ) (terms : List Term) → slice_get exprs i ≡ Some (expr.Kets q terms) → q ≤ 16
+few_kets exprs valid i q terms h =
+    let s = ap (λ (z : Size). z.qubits) (size-is exprs i (expr.Kets q terms) h (valid.each i (expr.Kets q terms) h)) in
+    let few = (valid.qubits i (slice_get_within exprs i (expr.Kets q terms) h)).1 in
+    omega arith
+
+-- what is taken for a part, by what is taken for those that it names
+pub takes_tensor : (exprs : List Expr) → AreValidExprs exprs → (i l r : ℕ) → slice_get exprs i ≡ Some (expr.Tensor l r) → (us vs rows : List Vector)
+    → us ≡ (lists exprs l).vectors → AllFit (lists exprs l).products → vs ≡ (lists exprs r).vectors → AllFit (lists exprs r).products
+    → rows ≡ tensors us vs → AllFit (all_pairs us vs)
+    → (rows ≡ (lists exprs i).vectors) × AllFit (lists exprs i).products
+takes_tensor exprs valid i l r h us vs rows a p b q made fits =
+    let s = lists-is exprs i (expr.Tensor l r) h (valid.each i (expr.Tensor l r) h) in
+    let last : AllFit (all_pairs (lists exprs l).vectors (lists exprs r).vectors) = fit_same _ _ (λ k. all_pairs (a k) (b k)) fits in
+    (made ∙ (λ k. tensors (a k) (b k)) ∙ ap (λ (z : Listed). z.vectors) (sym s),
+      fit_same _ _ (ap (λ (z : Listed). z.products) (sym s))
+      (fit_append (lists exprs l).products ((lists exprs r).products ++ all_pairs (lists exprs l).vectors (lists exprs r).vectors) p
+        (fit_append (lists exprs r).products (all_pairs (lists exprs l).vectors (lists exprs r).vectors) q last)))
+
+pub stops_tensor_left : (exprs : List Expr) → AreValidExprs exprs → (i l r : ℕ) → slice_get exprs i ≡ Some (expr.Tensor l r) → (e : VectorStop)
+    → StopsAmong (lists exprs l).products e → StopsAmong (lists exprs i).products e
+stops_tensor_left exprs valid i l r h e w =
+    let s = lists-is exprs i (expr.Tensor l r) h (valid.each i (expr.Tensor l r) h) in
+    stops_same _ _ e (ap (λ (z : Listed). z.products) (sym s))
+    (stops_left (lists exprs l).products ((lists exprs r).products ++ all_pairs (lists exprs l).vectors (lists exprs r).vectors) e w)
+
+pub stops_tensor_right : (exprs : List Expr) → AreValidExprs exprs → (i l r : ℕ) → slice_get exprs i ≡ Some (expr.Tensor l r) → (e : VectorStop)
+    → StopsAmong (lists exprs r).products e → StopsAmong (lists exprs i).products e
+stops_tensor_right exprs valid i l r h e w =
+    let s = lists-is exprs i (expr.Tensor l r) h (valid.each i (expr.Tensor l r) h) in
+    stops_same _ _ e (ap (λ (z : Listed). z.products) (sym s))
+    (stops_right (lists exprs l).products ((lists exprs r).products ++ all_pairs (lists exprs l).vectors (lists exprs r).vectors) e
+      (stops_left (lists exprs r).products (all_pairs (lists exprs l).vectors (lists exprs r).vectors) e w))
+
+pub stops_tensor : (exprs : List Expr) → AreValidExprs exprs → (i l r : ℕ) → slice_get exprs i ≡ Some (expr.Tensor l r) → (us vs : List Vector) (e : VectorStop)
+    → us ≡ (lists exprs l).vectors → vs ≡ (lists exprs r).vectors → StopsAmong (all_pairs us vs) e → StopsAmong (lists exprs i).products e
+stops_tensor exprs valid i l r h us vs e a b w =
+    let s = lists-is exprs i (expr.Tensor l r) h (valid.each i (expr.Tensor l r) h) in
+    stops_same _ _ e (ap (λ (z : Listed). z.products) (sym s))
+    (stops_right (lists exprs l).products ((lists exprs r).products ++ all_pairs (lists exprs l).vectors (lists exprs r).vectors) e
+      (stops_right (lists exprs r).products (all_pairs (lists exprs l).vectors (lists exprs r).vectors) e
+        (stops_same (all_pairs us vs) (all_pairs (lists exprs l).vectors (lists exprs r).vectors) e (λ k. all_pairs (a k) (b k)) w)))
+
+pub takes_power : (exprs : List Expr) → AreValidExprs exprs → (i base times : ℕ) → slice_get exprs i ≡ Some (expr.Power base times) → (vs rows : List Vector)
+    → vs ≡ (lists exprs base).vectors → AllFit (lists exprs base).products → rows ≡ (power times (listed vs)).vectors → AllFit (power times (listed vs)).products
+    → (rows ≡ (lists exprs i).vectors) × AllFit (lists exprs i).products
+takes_power exprs valid i base times h vs rows a p made fits =
+    let s = lists-is exprs i (expr.Power base times) h (valid.each i (expr.Power base times) h) in
+    let own : AllFit (power times (listed (lists exprs base).vectors)).products = fit_same _ _ (λ k. (power times (listed (a k))).products) fits in
+    (made ∙ (λ k. (power times (listed (a k))).vectors) ∙ power_vectors (lists exprs base) times ∙ ap (λ (z : Listed). z.vectors) (sym s),
+      fit_same _ _ (ap (λ (z : Listed). z.products) (sym s)) (fit_power (lists exprs base) times p own))
+
+-- a power of one or more has the products of its base
+pub stops_power_base : (exprs : List Expr) → AreValidExprs exprs → (i base times : ℕ) → slice_get exprs i ≡ Some (expr.Power base times) → (e : VectorStop)
+    → StopsAmong (lists exprs base).products e → StopsAmong (lists exprs i).products e
+stops_power_base exprs valid i base times h e w =
+    let s = lists-is exprs i (expr.Power base times) h (valid.each i (expr.Power base times) h) in
+    stops_same _ _ e (ap (λ (z : Listed). z.products) (sym s)) (stops_power (lists exprs base) 1 times e (omega arith) (some_times exprs valid i base times h) w)
+
+pub stops_power_at : (exprs : List Expr) → AreValidExprs exprs → (i base times : ℕ) → slice_get exprs i ≡ Some (expr.Power base times) → (vs : List Vector) (e : VectorStop)
+    → vs ≡ (lists exprs base).vectors → StopsAmong (power times (listed vs)).products e → StopsAmong (lists exprs i).products e
+stops_power_at exprs valid i base times h vs e a w =
+    let s = lists-is exprs i (expr.Power base times) h (valid.each i (expr.Power base times) h) in
+    stops_same _ _ e (ap (λ (z : Listed). z.products) (sym s)) (stops_power_of (lists exprs base) times e (stops_same _ _ e (λ k. (power times (listed (a k))).products) w))
+
+pub takes_kets : (exprs : List Expr) → AreValidExprs exprs → (i q : ℕ) (terms : List Term) → slice_get exprs i ≡ Some (expr.Kets q terms) → (rows : List Vector)
+    → rows ≡ kets_vector q terms ∷ [] → (rows ≡ (lists exprs i).vectors) × AllFit (lists exprs i).products
+takes_kets exprs valid i q terms h rows made =
+    let s = lists-is exprs i (expr.Kets q terms) h (valid.each i (expr.Kets q terms) h) in
+    (made ∙ ap (λ (z : Listed). z.vectors) (sym s), fit_same _ _ (ap (λ (z : Listed). z.products) (sym s)) fit_none)
+
+pub takes_all : (exprs : List Expr) → AreValidExprs exprs → (i q : ℕ) → slice_get exprs i ≡ Some (expr.All q) → (rows : List Vector)
+    → rows ≡ basis q → (rows ≡ (lists exprs i).vectors) × AllFit (lists exprs i).products
+takes_all exprs valid i q h rows made =
+    let s = lists-is exprs i (expr.All q) h (valid.each i (expr.All q) h) in
+    (made ∙ ap (λ (z : Listed). z.vectors) (sym s), fit_same _ _ (ap (λ (z : Listed). z.products) (sym s)) fit_none)

@@ -27,7 +27,7 @@ loop-i-preserved c =
     let base = c.args.base.now in
     let i = c.loop-i.i in
     let e = c.as_slice.ensures.value ∙ c.loop-i.invariant.made in
-    let h = rw e at c.in_ok-rows-in-loop-i.ensures in
+    let h = rw e at c.in_ok-rows-2.ensures in
     let next = power_next base i (i + 1) (omega arith) refl in
     record {
       made = h.0 ∙ next.0;
