@@ -9,3 +9,4 @@ pub mod ToldLaws
 pub mod RowLaws
 pub mod PartLaws
 pub mod TakeLaws
+pub mod WholeLaws
