@@ -1,2 +1,5 @@
 pub mod Vectors
 pub mod Wide
+pub mod Caps
+pub mod ValidExprs
+pub mod Listing

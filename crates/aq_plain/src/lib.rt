@@ -2,14 +2,23 @@
 #![tactic(auto)]
 
 mod apply;
+mod listing;
+mod parts;
 mod places;
 mod project;
 mod row;
+mod rows;
+mod sizes;
+mod stop;
+mod tensors;
 #[cfg(test)]
 mod tests;
 mod vector;
 
 pub use apply::apply_plain;
+pub use listing::vectors;
 pub use project::project_plain;
 pub use row::WideSum;
+pub use sizes::{Size, sizes_of};
+pub use stop::VectorStop;
 pub use vector::Vector;
