@@ -9,3 +9,9 @@ pub mod Pieces
 pub mod Marks
 pub mod ScalarLaws
 pub mod TermLaws
+mod CoefLaws
+mod CollectorLaws
+mod CheckLaws
+mod BracketLaws
+mod TableLaws
+mod QubitLaws

@@ -1,5 +1,5 @@
 -- What the items of a set file before a place have given, and computations that add to it or stop at the first fault.
-use Rattle.std.specs.Prelude.{◌≡◌, ℕ, suc, ◌+◌, Bool, List, [], ◌∷◌, Option, Some, None, Result, Ok, Err, nat_lt, if◌then◌else◌}
+use Rattle.std.specs.Prelude.{◌≡◌, ℕ, suc, ◌+◌, Bool, List, [], ◌∷◌, ◌++◌, Option, Some, None, Result, Ok, Err, nat_lt, if◌then◌else◌}
 use Rattle.std.specs.Str.{bytes_eq}
 use Rattle.aq_lex.specs.declared.place.Place.{Place}
 use Rattle.aq_set_read.specs.declared.made.Made.{Made}
@@ -24,6 +24,10 @@ nothing_gathered = record { exprs = []; nodes = 0; names = []; sets = []; claims
 abbrev pub named : List (List ℕ × Option Made) → List ℕ → Option (Option Made)
 named [] name = None
 named (entry ∷ rest) name = if bytes_eq name entry.0 then Some entry.1 else named rest name
+
+-- one name more
+abbrev pub with_name : List ℕ → Option Made → Gathered → Gathered
+with_name name made g = record { exprs = g.exprs; nodes = g.nodes; names = g.names ++ (name, made) ∷ []; sets = g.sets; claims = g.claims }
 
 -- the most qubits, nodes and names
 abbrev pub most_qubits : ℕ

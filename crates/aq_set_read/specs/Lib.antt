@@ -16,3 +16,5 @@ pub mod Tables
 pub mod Vectors
 pub mod Sizes
 pub mod Valid
+pub mod Bounds
+pub mod Parts

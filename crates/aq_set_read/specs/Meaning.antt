@@ -10,8 +10,10 @@ use Rattle.aq_set_read.specs.declared.tree.SetWord.{SetWord}
 use Rattle.aq_set_read.specs.declared.tree.SetTerm.{SetTerm}
 use Rattle.aq_set_read.specs.declared.tree.SetPower.{SetPower}
 use Rattle.aq_set_read.specs.declared.tree.SetExpr.{SetExpr}
+use Rattle.aq_set_read.specs.declared.tree.SetFactor.{SetFactor}
+use Rattle.aq_set_read.specs.declared.tree.SetPart.{SetPart}
 use Rattle.aq_set_read.specs.declared.tree.SetExpr.TheOpen.{SetExpr-F, SetFactor-F, SetPart-F}
-use Rattle.aq_set_read.specs.declared.tree.SetExpr.TheFolds.{fold-SetExpr}
+use Rattle.aq_set_read.specs.declared.tree.SetExpr.TheFolds.{fold-SetExpr, fold-SetFactor, fold-SetPart}
 use Rattle.aq_set_read.specs.declared.tree.SetCond.{SetCond}
 use Rattle.aq_set_read.specs.declared.tree.SetCase.{SetCase}
 use Rattle.aq_set_read.specs.declared.tree.SetItem.{SetItem}
@@ -70,20 +72,27 @@ abbrev pub most_roots : ℕ
 most_roots = 4294967295
 
 abbrev pub stands_in : List Term → ℕ → Bool
-stands_in terms index = list_any (λ t. t.index == index) terms
+stands_in terms index = list_any (λ t. index == t.index) terms
+
+abbrev pub term_of : SetTerm → Term
+term_of t = record { index = index_of t; amp = amplitude_of t.minus t.coef }
+
+-- a term behind others
+abbrev pub term_behind : List Term → SetTerm → List Term
+term_behind earlier t = earlier ++ term_of t ∷ []
 
 -- a term of a bracket of n qubits, behind others
-unfoldable pub term_taken : ℕ → List Term → SetTerm → Gathered → Checked (Step Term)
+unfoldable pub term_taken : ℕ → List Term → SetTerm → Gathered → Checked (Step (List Term))
 term_taken n earlier t g =
     refuse_if (nat_lt most_roots (roots_of t.coef)) (faults.AmpTooWide t.at)
     >> refuse_if (nat_lt most_qubits n) (faults.QubitCount t.ket.at)
     >> refuse_if (not (ket_length t == n)) (faults.KetLength t.ket.at)
     >> refuse_if (stands_in earlier (index_of t)) (faults.RepeatedKet t.ket.at)
-    >> (counted t.ket.at g >>= λ h. Ok (step h (record { index = index_of t; amp = amplitude_of t.minus t.coef })))
+    >> (counted t.ket.at g >>= λ h. Ok (step h (term_behind earlier t)))
 
 abbrev pub terms_taken : ℕ → List Term → List SetTerm → Gathered → Checked (Step (List Term))
 terms_taken n earlier [] g = Ok (step g earlier)
-terms_taken n earlier (t ∷ ts) g = term_taken n earlier t g >>= λ s. terms_taken n (earlier ++ s.value ∷ []) ts s.gathered
+terms_taken n earlier (t ∷ ts) g = term_taken n earlier t g >>= λ s. terms_taken n s.value ts s.gathered
 
 -- the first ket tells the number of qubits
 abbrev pub bracket_qubits : List SetTerm → ℕ
@@ -159,6 +168,13 @@ part_step p = record { at = p.at; run = p.expr }
 abbrev pub meaning : SetExpr → Meaning
 meaning = fold-SetExpr Meaning Operand Operand expr_step factor_step part_step
 
+-- an operand of a product, and of a union
+abbrev pub factor_of : SetFactor → Operand
+factor_of = fold-SetFactor Meaning Operand Operand expr_step factor_step part_step
+
+abbrev pub part_of : SetPart → Operand
+part_of = fold-SetPart Meaning Operand Operand expr_step factor_step part_step
+
 -- ---- items
 
 abbrev pub cond_of : SetCond → Cond
@@ -167,10 +183,10 @@ cond_of c = record { bit = c.name.text; index = c.index; value = c.value }
 abbrev pub case_of : SetCase → Made → Case
 case_of c m = record { set = m.expr; when = map cond_of c.when }
 
--- the expressions of a claim's cases in order
-abbrev pub cases_made : List SetCase → Gathered → Checked (Step (List Made))
-cases_made [] g = Ok (step g [])
-cases_made (c ∷ cs) g = meaning c.expr g >>= λ s. cases_made cs s.gathered >>= λ r. Ok (step r.gathered (s.value ∷ r.value))
+-- the expressions of a claim's cases in order, behind those of earlier cases
+abbrev pub cases_made : List Made → List SetCase → Gathered → Checked (Step (List Made))
+cases_made made [] g = Ok (step g made)
+cases_made made (c ∷ cs) g = meaning c.expr g >>= λ s. cases_made (made ++ s.value ∷ []) cs s.gathered
 
 -- all have n qubits; the fault is at the first token of the first case that hasn't
 abbrev pub same_qubits : ℕ → List SetCase → List Made → Checked (Unit {0})
@@ -191,36 +207,39 @@ naming name g =
     refuse_if (nat_lt most_names (suc (length g.names))) (faults.TooManyNames name.at)
     >> refuse_if (is_some (named g.names name.text)) (faults.TwiceNamed name.at)
 
-abbrev pub with_set : SetWord → Step Made → Gathered
+abbrev pub with_set : List ℕ → Step Made → Gathered
 with_set name s = record {
   exprs = s.gathered.exprs;
   nodes = s.gathered.nodes;
-  names = s.gathered.names ++ (name.text, Some s.value) ∷ [];
-  sets = s.gathered.sets ++ record { name = name.text; expr = s.value.expr } ∷ [];
+  names = s.gathered.names ++ (name, Some s.value) ∷ [];
+  sets = s.gathered.sets ++ record { name = name; expr = s.value.expr } ∷ [];
   claims = s.gathered.claims;
 }
 
-abbrev pub with_claim : SetWord → List Case → Gathered → Gathered
+abbrev pub with_claim : List ℕ → List Case → Gathered → Gathered
 with_claim name cases g = record {
   exprs = g.exprs;
   nodes = g.nodes;
-  names = g.names ++ (name.text, None) ∷ [];
+  names = g.names ++ (name, None) ∷ [];
   sets = g.sets;
-  claims = g.claims ++ record { name = name.text; cases = cases } ∷ [];
+  claims = g.claims ++ record { name = name; cases = cases } ∷ [];
 }
 
 abbrev pub item_taken : SetItem → Gathered → Checked Gathered
-item_taken (items.Set name e) g = naming name g >> (meaning e g >>= λ s. Ok (with_set name s))
+item_taken (items.Set name e) g = naming name g >> (meaning e g >>= λ s. Ok (with_set name.text s))
 item_taken (items.Claim name cases) g =
     naming name g
-    >> (cases_made cases g >>= λ s.
+    >> (cases_made [] cases g >>= λ s.
     same_qubits (first_qubits s.value) cases s.value
-    >> Ok (with_claim name (cases_of cases s.value) s.gathered))
+    >> Ok (with_claim name.text (cases_of cases s.value) s.gathered))
 
 abbrev pub items_taken : List SetItem → Gathered → Checked Gathered
 items_taken [] g = Ok g
 items_taken (x ∷ xs) g = item_taken x g >>= items_taken xs
 
+abbrev pub sets_in : Gathered → Sets
+sets_in g = record { exprs = g.exprs; sets = g.sets; claims = g.claims }
+
 -- What a set file's tree says, or its first fault.
 unfoldable pub sets_of : SetTree → Checked Sets
-sets_of tree = items_taken tree.items nothing_gathered >>= λ g. Ok (record { exprs = g.exprs; sets = g.sets; claims = g.claims })
+sets_of tree = items_taken tree.items nothing_gathered >>= λ g. Ok (sets_in g)

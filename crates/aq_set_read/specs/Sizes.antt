@@ -47,6 +47,14 @@ size_step done (expr.Power base times) =
 unfoldable pub size_of : List Expr → ℕ → Size
 size_of exprs i = at_position no_size (table size_step exprs) i
 
+-- the qubits alone
+abbrev pub qubits_step : List ℕ → Expr → ℕ
+qubits_step done (expr.Kets qubits terms) = qubits
+qubits_step done (expr.All qubits) = qubits
+qubits_step done (expr.Tensor left right) = at_position 0 done left + at_position 0 done right
+qubits_step done (expr.Union left right) = at_position 0 done left
+qubits_step done (expr.Power base times) = at_position 0 done base * times
+
 -- how many words a shape has: one choice for each qubit
 abbrev pub words : List ℕ → ℕ
 words shape = fold (λ product n. product * n) 1 shape

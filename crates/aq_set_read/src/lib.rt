@@ -1,8 +1,14 @@
 //! Files that name sets of quantum states: their tokens and their syntax tree, with their places.
 #![tactic(auto)]
 
+mod amplitudes;
+mod brackets;
+mod claims;
+mod collector;
+mod expressions;
 mod fault;
 mod front;
+mod kets;
 mod laws;
 mod lexeme;
 mod lexemes;
@@ -11,12 +17,14 @@ mod list;
 mod made;
 mod mark;
 mod meaning;
+mod operators;
 mod parse_fault;
 mod reader;
 mod scalars;
 mod scan;
 mod set_fault;
 mod sets;
+mod sizes;
 mod terms;
 #[cfg(test)]
 mod tests;
@@ -30,6 +38,7 @@ pub use lexer::tokens_of_sets;
 pub use list::SetTokens;
 pub use parse_fault::SetParseFault;
 pub use set_fault::SetFault;
+pub use sizes::{qubits, qubits_of_all};
 pub use sets::{Case, Cond, Expr, NamedClaim, NamedSet, Sets, Term};
 pub use token::{SetClass, SetKind, SetSymbol, SetToken};
 pub use tree::{

@@ -1,4 +1,5 @@
 use aq_lex::{Place, Text};
+use std::alloc::AllocError;
 
 /// Why a set file isn't read: its first fault.
 #[derive(Debug, Drop)]
@@ -36,4 +37,15 @@ pub enum SetFault {
     TooManyNodes { at: Place },
     /// Memory ran out.
     Memory,
+}
+
+impl From<AllocError> for SetFault {
+    ghost use Rattle.std.specs.Prelude.{◌≡◌};
+    ghost use Rattle.aq_set_read.specs.declared.set_fault.SetFault.TheVariants.{Memory};
+
+    ghost from_gives = { λ _ e. e ≡ Memory };
+
+    fn from(_error: AllocError) -> SetFault {
+        SetFault::Memory
+    }
 }

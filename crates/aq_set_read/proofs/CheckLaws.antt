@@ -1,0 +1,24 @@
+-- Checks that pass, and checks that refuse.
+use Rattle.std.proofs.Common.{◌≡◌, Bool, true, false, Ok, Err, refl, ap, if◌then◌else◌}
+use Rattle.aq_set_read.specs.Gathered.{Checked, ◌>>=◌, ◌>>◌, refuse_if}
+use Rattle.aq_set_read.specs.declared.set_fault.SetFault.{SetFault}
+
+-- a check that passes says nothing
+pub passes : {A : Type 0} (b : Bool) (f : SetFault) (rest : Checked A) → b ≡ false → (refuse_if b f >> rest) ≡ rest
+passes b f rest e = ap (λ x. refuse_if x f >> rest) e
+
+-- one that gives something has passed
+pub has_passed : {A : Type 0} (b : Bool) (f : SetFault) (x y : A) → (refuse_if b f >> Ok x) ≡ Ok y → b ≡ false
+has_passed true f x y e = cc
+has_passed false f x y e = refl
+
+-- what follows a check follows what the check gives
+pub check_then : {A B : Type 0} (b : Bool) (f : SetFault) (x : A) (rest : A → Checked B) → ((refuse_if b f >> Ok x) >>= rest) ≡ (refuse_if b f >> rest x)
+check_then true f x rest = refl
+check_then false f x rest = refl
+
+-- what gives something at its end has passed its second check
+pub second_passed : {A B : Type 0} (first second : Bool) (e f : SetFault) (rest : Checked A) (next : A → Checked B) (y : B) → ((refuse_if first e >> refuse_if second f >> rest) >>= next) ≡ Ok y → second ≡ false
+second_passed true second e f rest next y given = cc
+second_passed false true e f rest next y given = cc
+second_passed false false e f rest next y given = refl
