@@ -21,11 +21,11 @@ product_left : (a b : ℕ) → capped (capped a * b) ≡ capped (a * b)
 product_left a zero = omega arith
 product_left a (suc b) = ⊎_elim (λ lt. ap (λ n. capped (n * suc b)) (min-eq_left (omega arith)))
     (λ ge.
-      let one : 1 ≤ suc b = omega arith in
-      let low : most_told * 1 ≤ most_told * suc b = mul-le-mul_left most_told one in
-      let high : most_told * suc b ≤ a * suc b = mul-le-mul_right (suc b) ge in
-      let same : capped a ≡ most_told = min-eq_right ge in
-      ap (λ n. capped (n * suc b)) same ∙ omega arith)
+    let one : 1 ≤ suc b = omega arith in
+    let low : most_told * 1 ≤ most_told * suc b = mul-le-mul_left most_told one in
+    let high : most_told * suc b ≤ a * suc b = mul-le-mul_right (suc b) ge in
+    let same : capped a ≡ most_told = min-eq_right ge in
+    ap (λ n. capped (n * suc b)) same ∙ omega arith)
     (cases_lt a most_told)
 
 pub capped-product : (a b : ℕ) → capped (capped a * capped b) ≡ capped (a * b)

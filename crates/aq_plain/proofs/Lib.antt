@@ -10,3 +10,4 @@ pub mod RowLaws
 pub mod PartLaws
 pub mod TakeLaws
 pub mod WholeLaws
+pub mod BuiltLaws

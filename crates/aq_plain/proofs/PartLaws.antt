@@ -191,11 +191,12 @@ pub takes_tensor : (exprs : List Expr) → AreValidExprs exprs → (i l r : ℕ)
     → (rows ≡ (lists exprs i).vectors) × AllFit (lists exprs i).products
 takes_tensor exprs valid i l r h us vs rows a p b q made fits =
     let s = lists-is exprs i (expr.Tensor l r) h (valid.each i (expr.Tensor l r) h) in
-    let last : AllFit (all_pairs (lists exprs l).vectors (lists exprs r).vectors) = fit_same _ _ (λ k. all_pairs (a k) (b k)) fits in
-    (made ∙ (λ k. tensors (a k) (b k)) ∙ ap (λ (z : Listed). z.vectors) (sym s),
+    let last : AllFit (all_pairs (lists exprs l).vectors (lists exprs r).vectors) = fit_same _ _ (λ k. all_pairs (a k) (b k)) fits in (
+      made ∙ (λ k. tensors (a k) (b k)) ∙ ap (λ (z : Listed). z.vectors) (sym s),
       fit_same _ _ (ap (λ (z : Listed). z.products) (sym s))
-      (fit_append (lists exprs l).products ((lists exprs r).products ++ all_pairs (lists exprs l).vectors (lists exprs r).vectors) p
-        (fit_append (lists exprs r).products (all_pairs (lists exprs l).vectors (lists exprs r).vectors) q last)))
+          (fit_append (lists exprs l).products ((lists exprs r).products ++ all_pairs (lists exprs l).vectors (lists exprs r).vectors) p
+          (fit_append (lists exprs r).products (all_pairs (lists exprs l).vectors (lists exprs r).vectors) q last)),
+    )
 
 pub stops_tensor_left : (exprs : List Expr) → AreValidExprs exprs → (i l r : ℕ) → slice_get exprs i ≡ Some (expr.Tensor l r) → (e : VectorStop)
     → StopsAmong (lists exprs l).products e → StopsAmong (lists exprs i).products e
@@ -210,7 +211,7 @@ stops_tensor_right exprs valid i l r h e w =
     let s = lists-is exprs i (expr.Tensor l r) h (valid.each i (expr.Tensor l r) h) in
     stops_same _ _ e (ap (λ (z : Listed). z.products) (sym s))
     (stops_right (lists exprs l).products ((lists exprs r).products ++ all_pairs (lists exprs l).vectors (lists exprs r).vectors) e
-      (stops_left (lists exprs r).products (all_pairs (lists exprs l).vectors (lists exprs r).vectors) e w))
+    (stops_left (lists exprs r).products (all_pairs (lists exprs l).vectors (lists exprs r).vectors) e w))
 
 pub stops_tensor : (exprs : List Expr) → AreValidExprs exprs → (i l r : ℕ) → slice_get exprs i ≡ Some (expr.Tensor l r) → (us vs : List Vector) (e : VectorStop)
     → us ≡ (lists exprs l).vectors → vs ≡ (lists exprs r).vectors → StopsAmong (all_pairs us vs) e → StopsAmong (lists exprs i).products e
@@ -218,17 +219,18 @@ stops_tensor exprs valid i l r h us vs e a b w =
     let s = lists-is exprs i (expr.Tensor l r) h (valid.each i (expr.Tensor l r) h) in
     stops_same _ _ e (ap (λ (z : Listed). z.products) (sym s))
     (stops_right (lists exprs l).products ((lists exprs r).products ++ all_pairs (lists exprs l).vectors (lists exprs r).vectors) e
-      (stops_right (lists exprs r).products (all_pairs (lists exprs l).vectors (lists exprs r).vectors) e
-        (stops_same (all_pairs us vs) (all_pairs (lists exprs l).vectors (lists exprs r).vectors) e (λ k. all_pairs (a k) (b k)) w)))
+    (stops_right (lists exprs r).products (all_pairs (lists exprs l).vectors (lists exprs r).vectors) e
+    (stops_same (all_pairs us vs) (all_pairs (lists exprs l).vectors (lists exprs r).vectors) e (λ k. all_pairs (a k) (b k)) w)))
 
 pub takes_power : (exprs : List Expr) → AreValidExprs exprs → (i base times : ℕ) → slice_get exprs i ≡ Some (expr.Power base times) → (vs rows : List Vector)
     → vs ≡ (lists exprs base).vectors → AllFit (lists exprs base).products → rows ≡ (power times (listed vs)).vectors → AllFit (power times (listed vs)).products
     → (rows ≡ (lists exprs i).vectors) × AllFit (lists exprs i).products
 takes_power exprs valid i base times h vs rows a p made fits =
     let s = lists-is exprs i (expr.Power base times) h (valid.each i (expr.Power base times) h) in
-    let own : AllFit (power times (listed (lists exprs base).vectors)).products = fit_same _ _ (λ k. (power times (listed (a k))).products) fits in
-    (made ∙ (λ k. (power times (listed (a k))).vectors) ∙ power_vectors (lists exprs base) times ∙ ap (λ (z : Listed). z.vectors) (sym s),
-      fit_same _ _ (ap (λ (z : Listed). z.products) (sym s)) (fit_power (lists exprs base) times p own))
+    let own : AllFit (power times (listed (lists exprs base).vectors)).products = fit_same _ _ (λ k. (power times (listed (a k))).products) fits in (
+      made ∙ (λ k. (power times (listed (a k))).vectors) ∙ power_vectors (lists exprs base) times ∙ ap (λ (z : Listed). z.vectors) (sym s),
+      fit_same _ _ (ap (λ (z : Listed). z.products) (sym s)) (fit_power (lists exprs base) times p own),
+    )
 
 -- a power of one or more has the products of its base
 pub stops_power_base : (exprs : List Expr) → AreValidExprs exprs → (i base times : ℕ) → slice_get exprs i ≡ Some (expr.Power base times) → (e : VectorStop)

@@ -48,12 +48,12 @@ kets_more n t ts in_n =
     let size = length-kets_vector n ts in
     kets_filled n (t ∷ ts) (set (kets_vector n ts) t.index t.amp) (length-set (kets_vector n ts) t.index t.amp ∙ size)
     (λ k lt. ⊎_elim
-      (λ (e : k ≡ t.index).
-        ap (λ i. get_or (set (kets_vector n ts) t.index t.amp) i amplitude_zero) e
-        ∙ get_or-set_same (kets_vector n ts) t.index t.amp amplitude_zero (omega arith) ∙ sym (entry_here t ts k (sym e)))
-      (λ (e : k ≢ t.index).
-        get_or-set_other (kets_vector n ts) t.index k t.amp amplitude_zero e ∙ get_or-kets n ts k lt ∙ sym (entry_there t ts k (λ s. e (sym s))))
-      (cases_eq k t.index))
+    (λ (e : k ≡ t.index).
+    ap (λ i. get_or (set (kets_vector n ts) t.index t.amp) i amplitude_zero) e
+    ∙ get_or-set_same (kets_vector n ts) t.index t.amp amplitude_zero (omega arith) ∙ sym (entry_here t ts k (sym e)))
+    (λ (e : k ≢ t.index).
+    get_or-set_other (kets_vector n ts) t.index k t.amp amplitude_zero e ∙ get_or-kets n ts k lt ∙ sym (entry_there t ts k (λ s. e (sym s))))
+    (cases_eq k t.index))
 
 -- the term at a place is written before those behind it
 pub kets_step : (n : ℕ) (ts : List Term) (i j : ℕ) (t : Term) (row new : List Amplitude) → i < length ts → j ≡ i + 1 → t ≡ get_or ts i t → t.index < 2 ^ n
@@ -71,15 +71,15 @@ basis_made n i in_n =
     fill_by_all (λ x. cond (eqb x i) amplitude_one amplitude_zero) (set (replicate (2 ^ n) amplitude_zero) i amplitude_one) (2 ^ n) amplitude_zero
     (length-set (replicate (2 ^ n) amplitude_zero) i amplitude_one ∙ size)
     (λ k lt. ⊎_elim
-      (λ (e : k ≡ i).
-        ap (λ j. get_or (set (replicate (2 ^ n) amplitude_zero) i amplitude_one) j amplitude_zero) e
-        ∙ get_or-set_same (replicate (2 ^ n) amplitude_zero) i amplitude_one amplitude_zero (omega arith)
-        ∙ sym (chosen (eqb k i) amplitude_one amplitude_zero (eq-eqb k i e)))
-      (λ (e : k ≢ i).
-        get_or-set_other (replicate (2 ^ n) amplitude_zero) i k amplitude_one amplitude_zero e
-        ∙ get_or-replicate (2 ^ n) k amplitude_zero amplitude_zero lt
-        ∙ sym (other (eqb k i) amplitude_one amplitude_zero (ne_eqb k i e)))
-      (cases_eq k i))
+    (λ (e : k ≡ i).
+    ap (λ j. get_or (set (replicate (2 ^ n) amplitude_zero) i amplitude_one) j amplitude_zero) e
+    ∙ get_or-set_same (replicate (2 ^ n) amplitude_zero) i amplitude_one amplitude_zero (omega arith)
+    ∙ sym (chosen (eqb k i) amplitude_one amplitude_zero (eq-eqb k i e)))
+    (λ (e : k ≢ i).
+    get_or-set_other (replicate (2 ^ n) amplitude_zero) i k amplitude_one amplitude_zero e
+    ∙ get_or-replicate (2 ^ n) k amplitude_zero amplitude_zero lt
+    ∙ sym (other (eqb k i) amplitude_one amplitude_zero (ne_eqb k i e)))
+    (cases_eq k i))
 
 -- nothing is written at first
 pub kets_start : (n : ℕ) (ts : List Term) → replicate (2 ^ n) amplitude_zero ≡ kets_vector n (drop (length ts) ts)

@@ -36,7 +36,7 @@ there (x ∷ xs) (suc i) h = there xs i (omega arith)
 -- what every expression has that has it where the expressions that it names have it
 pub by_expr : (R : Listed → Size → Type 0) (exprs : List Expr) → AreValidExprs exprs
     → ((i : ℕ) (e : Expr) → IsValidExpr exprs i e → 0 < (size_by (size_of exprs) e).qubits → ((j : ℕ) → j < i → R (lists exprs j) (size_of exprs j))
-      → R (listed_by (lists exprs) e) (size_by (size_of exprs) e))
+    → R (listed_by (lists exprs) e) (size_by (size_of exprs) e))
     → (i : ℕ) → i < length exprs → R (lists exprs i) (size_of exprs i)
 by_expr R exprs valid step = by_position (λ i. i < length exprs → R (lists exprs i) (size_of exprs i)) (λ i ih lt.
     let e = there exprs i lt in

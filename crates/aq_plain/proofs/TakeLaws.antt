@@ -129,7 +129,7 @@ fit_power base (suc (suc n)) own h =
     fit_append (power (suc n) base).products (base.products ++ all_pairs (power (suc n) base).vectors base.vectors)
     (fit_power base (suc n) own front)
     (fit_append base.products (all_pairs (power (suc n) base).vectors base.vectors) own
-      (subst (λ (vs : List Vector). AllFit (all_pairs vs base.vectors)) (power_vectors base (suc n)) back))
+    (subst (λ (vs : List Vector). AllFit (all_pairs vs base.vectors)) (power_vectors base (suc n)) back))
 
 pub stops_split : (xs ys zs : List Operands) (e : VectorStop) → (StopsAmong xs e → StopsAmong zs e) → (StopsAmong ys e → StopsAmong zs e) → StopsAmong (xs ++ ys) e → StopsAmong zs e
 stops_split xs ys zs (stop.Wide left right) f g h =
@@ -147,7 +147,7 @@ stops_power_of base (suc (suc n)) e h =
     stops_split (power (suc n) (listed base.vectors)).products (all_pairs (power (suc n) (listed base.vectors)).vectors base.vectors) (own ++ (base.products ++ last)) e
     (λ p. stops_left own (base.products ++ last) e (stops_power_of base (suc n) e p))
     (λ p. stops_right own (base.products ++ last) e (stops_right base.products last e
-      (subst (λ (vs : List Vector). StopsAmong (all_pairs vs base.vectors) e) (power_vectors base (suc n)) p)))
+    (subst (λ (vs : List Vector). StopsAmong (all_pairs vs base.vectors) e) (power_vectors base (suc n)) p)))
     h
 
 -- ---- steps of loops

@@ -20,7 +20,7 @@ use Rattle.aq_plain.specs.declared.sizes.Size as told
 use Rattle.aq_plain.proofs.TableLaws.{length-table, earlier, at_step, take-table}
 use Rattle.aq_plain.proofs.ExprLaws.{tensor_size, union_size, power_size, size-is}
 use Rattle.aq_plain.proofs.CapLaws.{capped-product, capped-sum, capped-power, capped-united_shape, capped-repeat, capped-replicate}
-use Rattle.aq_plain.proofs.SizeLaws.{has_shape}
+use Rattle.aq_plain.proofs.SizeLaws.{has_shape, there}
 
 pub valid_exprs : (s : Sets) → IsValidSets s → AreValidExprs s.exprs
 valid_exprs s h = record { each = h.exprs; qubits = h.qubits; short = h.short }
@@ -186,3 +186,11 @@ united-later (x ∷ xs) (y ∷ ys) (suc i) some e = get_or-larger xs ys i (omega
 pub repeat_more : {A : Type 0} (k : ℕ) (xs : List A) → repeat k xs ++ xs ≡ repeat (suc k) xs
 repeat_more zero xs = sym (append-nil xs)
 repeat_more (suc k) xs = append_assoc xs (repeat k xs) xs ∙ ap (λ zs. xs ++ zs) (repeat_more k xs)
+
+-- ---- what is told
+
+pub told_everywhere : (exprs : List Expr) (i : ℕ) → i < length exprs → slice_get (capped_sizes exprs) i ≡ Some (capped_size (size_of exprs i))
+told_everywhere exprs i lt =
+    let n = length-told exprs (capped_sizes exprs) refl in
+    let e = there (capped_sizes exprs) i (omega arith) in
+    e.1 ∙ ap Some (told_at exprs (capped_sizes exprs) i e.0 refl lt (sym (get_or_from_slice_get (capped_sizes exprs) i e.0 e.0 e.1)))

@@ -3,3 +3,4 @@ pub mod Wide
 pub mod Caps
 pub mod ValidExprs
 pub mod Listing
+pub mod Laws

@@ -2,7 +2,12 @@
 #![tactic(auto)]
 
 mod apply;
+#[cfg(test)]
+mod built;
+pub mod laws;
 mod listing;
+#[cfg(test)]
+mod listing_tests;
 mod parts;
 mod places;
 mod project;

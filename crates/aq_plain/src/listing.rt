@@ -42,7 +42,11 @@ pub fn vectors(
 }
 
 /// How many qubits the expression has, and how many vectors it lists, told up to 2^64.
-fn numbers_of(alloc: Global, exprs: &[Expr], expr: u32) -> Result<(u32, u128), AllocError>
+pub(crate) fn numbers_of(
+    alloc: Global,
+    exprs: &[Expr],
+    expr: u32,
+) -> Result<(u32, u128), AllocError>
     requires valid { AreValidExprs exprs.now }
     requires within { expr < length exprs.now }
     ensures qubits { IfOk result (λ n. n.0 ≡ (size_of exprs.now expr).qubits) }
@@ -54,11 +58,7 @@ fn numbers_of(alloc: Global, exprs: &[Expr], expr: u32) -> Result<(u32, u128), A
 }
 
 /// The rows as state vectors.
-fn vectors_of_rows(
-    alloc: Global,
-    qubits: u32,
-    rows: Vec<Row>,
-) -> Result<Items<Vector>, AllocError>
+fn vectors_of_rows(alloc: Global, qubits: u32, rows: Vec<Row>) -> Result<Items<Vector>, AllocError>
     requires few { qubits ≤ 16 }
     requires long { All (λ v. length v ≡ 2 ^ qubits) rows.items }
     ensures { IfOk result (λ list. list ≡ states_of qubits rows.items) }

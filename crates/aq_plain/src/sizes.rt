@@ -66,12 +66,7 @@ pub(crate) fn expr_sizes(alloc: Global, exprs: &[Expr]) -> Result<Items<Size>, A
 }
 
 /// The size of the expression at a position, from the sizes of those before it.
-fn size_at(
-    alloc: Global,
-    exprs: &[Expr],
-    done: &[Size],
-    i: usize,
-) -> Result<Size, AllocError>
+fn size_at(alloc: Global, exprs: &[Expr], done: &[Size], i: usize) -> Result<Size, AllocError>
     requires valid { AreValidExprs exprs.now }
     requires within { i < length exprs.now }
     requires done { done.now ≡ capped_sizes (take i exprs.now) }
@@ -118,10 +113,11 @@ fn basis_size(alloc: Global, qubits: u32) -> Result<Size, AllocError>
 fn tensor_size(alloc: Global, left: &Size, right: &Size) -> Result<Size, AllocError>
     requires { left.now.qubits + right.now.qubits ≤ 16 }
     ensures { IfOk result (λ size. size ≡ record {
-        qubits = left.now.qubits + right.now.qubits;
-        count = capped (left.now.count * right.now.count);
-        shape = left.now.shape ++ right.now.shape;
-        nodes = capped (1 + capped (left.now.nodes + right.now.nodes)) }) }
+      qubits = left.now.qubits + right.now.qubits;
+      count = capped (left.now.count * right.now.count);
+      shape = left.now.shape ++ right.now.shape;
+      nodes = capped (1 + capped (left.now.nodes + right.now.nodes));
+    }) }
 {
     let mut shape = Vec::from_slice(alloc, left.shape.as_slice())?;
     shape.extend_from_slice(right.shape.as_slice())?;
@@ -136,10 +132,11 @@ fn tensor_size(alloc: Global, left: &Size, right: &Size) -> Result<Size, AllocEr
 fn union_size(alloc: Global, left: &Size, right: &Size) -> Result<Size, AllocError>
     requires { length left.now.shape ≡ length right.now.shape }
     ensures { IfOk result (λ size. size ≡ record {
-        qubits = left.now.qubits;
-        count = capped (left.now.count + right.now.count);
-        shape = map capped (united_shape left.now.shape right.now.shape);
-        nodes = capped (1 + capped (left.now.nodes + right.now.nodes)) }) }
+      qubits = left.now.qubits;
+      count = capped (left.now.count + right.now.count);
+      shape = map capped (united_shape left.now.shape right.now.shape);
+      nodes = capped (1 + capped (left.now.nodes + right.now.nodes));
+    }) }
 {
     let shape = united(alloc, left.shape.as_slice(), right.shape.as_slice())?;
     Ok(Size {
@@ -153,10 +150,11 @@ fn union_size(alloc: Global, left: &Size, right: &Size) -> Result<Size, AllocErr
 fn power_size(alloc: Global, base: &Size, times: u32) -> Result<Size, AllocError>
     requires { base.now.qubits * times ≤ 16 }
     ensures { IfOk result (λ size. size ≡ record {
-        qubits = base.now.qubits * times;
-        count = capped (base.now.count ^ times);
-        shape = repeat times base.now.shape;
-        nodes = capped (times + base.now.nodes) }) }
+      qubits = base.now.qubits * times;
+      count = capped (base.now.count ^ times);
+      shape = repeat times base.now.shape;
+      nodes = capped (times + base.now.nodes);
+    }) }
 {
     let shape = repeated(alloc, base.shape.as_slice(), times)?;
     Ok(Size {

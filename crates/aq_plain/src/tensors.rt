@@ -66,11 +66,7 @@ pub(crate) fn tensor_rows(
 }
 
 /// The tensor product of so many times the base, from the left to the right.
-pub(crate) fn power_rows(
-    alloc: Global,
-    base: &[Row],
-    times: u32,
-) -> Result<Vec<Row>, VectorStop>
+pub(crate) fn power_rows(alloc: Global, base: &[Row], times: u32) -> Result<Vec<Row>, VectorStop>
     requires { 2 ≤ times }
     ensures { Takes (power times (listed base.now)).products (λ rows. rows.items ≡ (power times (listed base.now)).vectors) result }
 {

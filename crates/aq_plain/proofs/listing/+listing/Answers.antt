@@ -16,8 +16,8 @@ list_rows-returns-in_err-more t c =
     let p = err_from_is_err_and c.from_residual-in_err-more.result c.from_residual-in_err-more.ensures.1 in
     let same = ap (lists_in_turn c.args.exprs.now) c.as_slice-part-items.ensures.value ∙ c.in_ok-parts.ensures.same in
     rw (p.1, p.2)
-      (stops_same _ _ _ (ap (λ (z : Listed). z.products) same)
-      (stops_in_turn c.args.exprs.now c.as_slice-part-items.result.now c.loop-part.part-index _ (omega arith) c.in_err-more.ensures))
+    (stops_same _ _ _ (ap (λ (z : Listed). z.products) same)
+    (stops_in_turn c.args.exprs.now c.as_slice-part-items.result.now c.loop-part.part-index _ (omega arith) c.in_err-more.ensures))
 
 pub list_rows-loop-part-preserved : goal.list_rows-loop-part-preserved
 list_rows-loop-part-preserved t c =
@@ -29,11 +29,11 @@ list_rows-loop-part-preserved t c =
     let more = in_turn_more exprs parts i (omega arith) in
     record {
       made =
-        c.in_ok-append.ensures.items ∙ (λ k. c.loop-part.invariant.made k ++ c.in_ok-more.ensures.0 k)
-        ∙ ap (λ (z : Listed). z.vectors) more;
+          c.in_ok-append.ensures.items ∙ (λ k. c.loop-part.invariant.made k ++ c.in_ok-more.ensures.0 k)
+          ∙ ap (λ (z : Listed). z.vectors) more;
       fits =
-        fit_same _ _ (ap (λ (z : Listed). z.products) more)
-        (fit_append before.products here.products c.loop-part.invariant.fits c.in_ok-more.ensures.1);
+          fit_same _ _ (ap (λ (z : Listed). z.products) more)
+          (fit_append before.products here.products c.loop-part.invariant.fits c.in_ok-more.ensures.1);
     }
 
 -- ---- brackets and bases
@@ -104,9 +104,9 @@ part_rows-returns-in_err-rows-in-Tensor t c =
     let p = err_from_is_err_and c.from_residual-in_err-rows-in-Tensor.result c.from_residual-in_err-rows-in-Tensor.ensures.1 in
     let h = expr_at c.args.exprs.now c.args.part _ _ c.requires.within c.index-exprs-part.is c.in-Tensor.is in
     rw (p.1, p.2)
-      (stops_tensor c.args.exprs.now c.requires.valid c.args.part c.in-Tensor.left c.in-Tensor.right h _ _ _
-      (c.as_slice-in-Tensor.ensures.value ∙ c.in_ok-left_rows-in-Tensor.ensures.0) (c.as_slice-in-Tensor-2.ensures.value ∙ c.in_ok-right_rows-in-Tensor.ensures.0)
-      c.in_err-rows-in-Tensor.ensures)
+    (stops_tensor c.args.exprs.now c.requires.valid c.args.part c.in-Tensor.left c.in-Tensor.right h _ _ _
+    (c.as_slice-in-Tensor.ensures.value ∙ c.in_ok-left_rows-in-Tensor.ensures.0) (c.as_slice-in-Tensor-2.ensures.value ∙ c.in_ok-right_rows-in-Tensor.ensures.0)
+    c.in_err-rows-in-Tensor.ensures)
 
 pub part_rows-returns-in_ok-rows-in-Tensor : goal.part_rows-returns-in_ok-rows-in-Tensor
 part_rows-returns-in_ok-rows-in-Tensor t c =
@@ -141,8 +141,8 @@ part_rows-returns-in_err-rows-in-Power t c =
     let p = err_from_is_err_and c.from_residual-in_err-rows-in-Power.result c.from_residual-in_err-rows-in-Power.ensures.1 in
     let h = expr_at c.args.exprs.now c.args.part _ _ c.requires.within c.index-exprs-part.is c.in-Power.is in
     rw (p.1, p.2)
-      (stops_power_at c.args.exprs.now c.requires.valid c.args.part c.in-Power.base c.in-Power.times h _ _
-      (c.as_slice-in-Power.ensures.value ∙ c.in_ok-base_rows-in-Power.ensures.0) c.in_err-rows-in-Power.ensures)
+    (stops_power_at c.args.exprs.now c.requires.valid c.args.part c.in-Power.base c.in-Power.times h _ _
+    (c.as_slice-in-Power.ensures.value ∙ c.in_ok-base_rows-in-Power.ensures.0) c.in_err-rows-in-Power.ensures)
 
 pub part_rows-returns-in_ok-rows-in-Power : goal.part_rows-returns-in_ok-rows-in-Power
 part_rows-returns-in_ok-rows-in-Power t c =

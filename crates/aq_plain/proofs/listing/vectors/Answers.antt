@@ -19,8 +19,8 @@ returns-in_err-rows c =
     let count = rw c.as_slice-exprs.ensures at c.in_ok-qubits.ensures.count in
     let h = rw c.as_slice-exprs.ensures at c.in_err-rows.ensures in
     rw (p.1, p.2)
-      (gives_stop c.args.sets.now.exprs c.args.expr c.args.most _
-      (not_too_many c.args.sets.now.exprs (valid_exprs _ c.requires.valid) c.args.expr c.in_ok-qubits.count c.args.most c.requires.within count (omega arith) (omega arith)) h)
+    (gives_stop c.args.sets.now.exprs c.args.expr c.args.most _
+    (not_too_many c.args.sets.now.exprs (valid_exprs _ c.requires.valid) c.args.expr c.in_ok-qubits.count c.args.most c.requires.within count (omega arith) (omega arith)) h)
 
 pub vectors_of_rows-requires-clause-long : goal.vectors_of_rows-requires-clause-long
 vectors_of_rows-requires-clause-long c =
@@ -32,6 +32,8 @@ pub returns : goal.returns
 returns c =
     let count = rw c.as_slice-exprs.ensures at c.in_ok-qubits.ensures.count in
     let qubits = rw c.as_slice-exprs.ensures at c.in_ok-qubits.ensures.qubits in
-    let rows = rw c.as_slice-exprs.ensures at c.in_ok-rows.ensures in
-    (not_too_many c.args.sets.now.exprs (valid_exprs _ c.requires.valid) c.args.expr c.in_ok-qubits.count c.args.most c.requires.within count (omega arith) (omega arith),
-      c.in_ok-list.ensures ∙ (λ k. states_of (qubits k) (rows.0 k)), rows.1)
+    let rows = rw c.as_slice-exprs.ensures at c.in_ok-rows.ensures in (
+      not_too_many c.args.sets.now.exprs (valid_exprs _ c.requires.valid) c.args.expr c.in_ok-qubits.count c.args.most c.requires.within count (omega arith) (omega arith),
+      c.in_ok-list.ensures ∙ (λ k. states_of (qubits k) (rows.0 k)),
+      rows.1,
+    )

@@ -24,13 +24,13 @@ loop-at-preserved c =
     let h = expr_at exprs c.in-Some.at c.index-exprs-at.result c.index-exprs-at.result (omega (arith, le.1, c.requires.within)) c.index-exprs-at.is refl in
     record {
       same =
-        (λ k. united (lists_in_turn exprs (c.in_ok-open_one.ensures.parts k)) (pending exprs (c.in_ok-open_one.ensures.work k)))
-        ∙ step_same exprs c.requires.valid c.in-Some.at c.index-exprs-at.result h c.loop-at.parts.items c.pop.new.self.items
-        ∙ ap (λ (w : List ℕ). united (lists_in_turn exprs c.loop-at.parts.items) (pending exprs w)) (sym pop) ∙ c.loop-at.invariant.same;
+          (λ k. united (lists_in_turn exprs (c.in_ok-open_one.ensures.parts k)) (pending exprs (c.in_ok-open_one.ensures.work k)))
+          ∙ step_same exprs c.requires.valid c.in-Some.at c.index-exprs-at.result h c.loop-at.parts.items c.pop.new.self.items
+          ∙ ap (λ (w : List ℕ). united (lists_in_turn exprs c.loop-at.parts.items) (pending exprs w)) (sym pop) ∙ c.loop-at.invariant.same;
       each = subst (λ (ps : List ℕ). All (IsPartOf exprs c.args.expr) ps) (sym c.in_ok-open_one.ensures.parts)
-        (All-append (IsPartOf exprs c.args.expr) c.loop-at.parts.items (kept c.index-exprs-at.result c.in-Some.at) c.loop-at.invariant.each
+          (All-append (IsPartOf exprs c.args.expr) c.loop-at.parts.items (kept c.index-exprs-at.result c.in-Some.at) c.loop-at.invariant.each
           (kept_parts exprs c.args.expr c.in-Some.at c.index-exprs-at.result h le.1));
       work = subst (λ (w : List ℕ). All (λ i. i ≤ c.args.expr) w) (sym c.in_ok-open_one.ensures.work)
-        (All-append (λ i. i ≤ c.args.expr) c.pop.new.self.items (opened c.index-exprs-at.result) le.0
+          (All-append (λ i. i ≤ c.args.expr) c.pop.new.self.items (opened c.index-exprs-at.result) le.0
           (opened_below exprs c.requires.valid c.args.expr c.in-Some.at c.index-exprs-at.result h le.1));
     }

@@ -19,8 +19,8 @@ returns-in_err-rows-2 c =
     let h = rw e at c.in_err-rows-2.ensures in
     let next = power_next base i (i + 1) (omega arith) refl in
     rw (p.1, p.2)
-      (stops_power (listed base) (i + 1) c.args.times _ (omega arith) (omega arith)
-      (stops_same _ _ _ next.1 (stops_right (power i (listed base)).products (all_pairs (power i (listed base)).vectors base) _ h)))
+    (stops_power (listed base) (i + 1) c.args.times _ (omega arith) (omega arith)
+    (stops_same _ _ _ next.1 (stops_right (power i (listed base)).products (all_pairs (power i (listed base)).vectors base) _ h)))
 
 pub loop-i-preserved : goal.loop-i-preserved
 loop-i-preserved c =

@@ -23,11 +23,11 @@ loop-row-preserved c =
     let h = rw c.amps.ensures at c.in_ok-product.ensures in
     record {
       made =
-        c.in_ok-push.ensures.items ∙ ap (λ (xs : List Vector). xs ++ c.in_ok-product.product ∷ []) c.loop-row.invariant.made
-        ∙ append_assoc before (map (tensor left) (take i right)) (c.in_ok-product.product ∷ [])
-        ∙ ap (λ (ys : List Vector). before ++ ys)
+          c.in_ok-push.ensures.items ∙ ap (λ (xs : List Vector). xs ++ c.in_ok-product.product ∷ []) c.loop-row.invariant.made
+          ∙ append_assoc before (map (tensor left) (take i right)) (c.in_ok-product.product ∷ [])
+          ∙ ap (λ (ys : List Vector). before ++ ys)
           (ap (λ (y : Vector). map (tensor left) (take i right) ++ y ∷ []) h.0 ∙ map_take_more (tensor left) right i row (omega arith) c.row-item.is);
       fits =
-        fit_same (flat_map (pairs left) (take i right) ++ pairs left row) _ (flat_map_take_more (pairs left) right i row (omega arith) c.row-item.is)
-        (fit_append (flat_map (pairs left) (take i right)) (pairs left row) c.loop-row.invariant.fits h.1);
+          fit_same (flat_map (pairs left) (take i right) ++ pairs left row) _ (flat_map_take_more (pairs left) right i row (omega arith) c.row-item.is)
+          (fit_append (flat_map (pairs left) (take i right)) (pairs left row) c.loop-row.invariant.fits h.1);
     }

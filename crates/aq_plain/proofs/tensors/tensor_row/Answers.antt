@@ -23,9 +23,9 @@ loop-amp-preserved c =
     let right = c.args.right.now in
     record {
       made =
-        c.in_ok-push_products.ensures.0 ∙ ap (λ (xs : List Amplitude). xs ++ map (product a) right) c.loop-amp.invariant.made
-        ∙ tensor_more left right i a (omega arith) c.amp-item.is;
+          c.in_ok-push_products.ensures.0 ∙ ap (λ (xs : List Amplitude). xs ++ map (product a) right) c.loop-amp.invariant.made
+          ∙ tensor_more left right i a (omega arith) c.amp-item.is;
       fits =
-        fit_same (pairs (take i left) right ++ map (λ b. (a, b)) right) _ (flat_map_take_more (λ a. map (λ b. (a, b)) right) left i a (omega arith) c.amp-item.is)
-        (fit_append (pairs (take i left) right) (map (λ b. (a, b)) right) c.loop-amp.invariant.fits c.in_ok-push_products.ensures.1);
+          fit_same (pairs (take i left) right ++ map (λ b. (a, b)) right) _ (flat_map_take_more (λ a. map (λ b. (a, b)) right) left i a (omega arith) c.amp-item.is)
+          (fit_append (pairs (take i left) right) (map (λ b. (a, b)) right) c.loop-amp.invariant.fits c.in_ok-push_products.ensures.1);
     }

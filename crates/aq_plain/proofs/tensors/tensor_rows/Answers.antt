@@ -21,9 +21,9 @@ loop-row-preserved c =
     let h = rw c.amps.ensures at c.in_ok-push_tensors.ensures in
     record {
       made =
-        h.0 ∙ ap (λ (xs : List Vector). xs ++ map (tensor row) right) c.loop-row.invariant.made
-        ∙ flat_map_take_more (λ u. map (tensor u) right) left i row (omega arith) c.row-item.is;
+          h.0 ∙ ap (λ (xs : List Vector). xs ++ map (tensor row) right) c.loop-row.invariant.made
+          ∙ flat_map_take_more (λ u. map (tensor u) right) left i row (omega arith) c.row-item.is;
       fits =
-        fit_same (all_pairs (take i left) right ++ flat_map (pairs row) right) _ (flat_map_take_more (λ u. flat_map (pairs u) right) left i row (omega arith) c.row-item.is)
-        (fit_append (all_pairs (take i left) right) (flat_map (pairs row) right) c.loop-row.invariant.fits h.1);
+          fit_same (all_pairs (take i left) right ++ flat_map (pairs row) right) _ (flat_map_take_more (λ u. flat_map (pairs u) right) left i row (omega arith) c.row-item.is)
+          (fit_append (all_pairs (take i left) right) (flat_map (pairs row) right) c.loop-row.invariant.fits h.1);
     }
