@@ -24,6 +24,6 @@ pub use apply::apply_plain;
 pub use listing::vectors;
 pub use project::project_plain;
 pub use row::WideSum;
-pub use sizes::{Size, sizes_of};
+pub use sizes::{Size, capped_product, capped_sum, sizes_of};
 pub use stop::VectorStop;
 pub use vector::Vector;

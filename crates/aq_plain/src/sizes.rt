@@ -200,13 +200,15 @@ fn repeated(alloc: Global, list: &[u128], times: u32) -> Result<Items<u128>, All
     Ok(Items::from_vec(whole))
 }
 
-fn capped_sum(left: u128, right: u128) -> u128
+/// The sum of two numbers, told up to 2^64.
+pub fn capped_sum(left: u128, right: u128) -> u128
     ensures { result ≡ capped (left + right) }
 {
     left.saturating_add(right).min(MOST_TOLD)
 }
 
-fn capped_product(left: u128, right: u128) -> u128
+/// The product of two numbers, told up to 2^64.
+pub fn capped_product(left: u128, right: u128) -> u128
     ensures { result ≡ capped (left * right) }
 {
     left.saturating_mul(right).min(MOST_TOLD)

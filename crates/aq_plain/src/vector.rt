@@ -50,6 +50,17 @@ impl Vector {
         Vector { qubits, amps }
     }
 
+    /// The same state once more. Fails only for want of memory.
+    pub fn copy(&self, alloc: Global) -> Result<Vector, AllocError>
+        ensures { IfOk result (λ v. v ≡ self.now) }
+    {
+        let amps = Vec::from_slice(alloc, self.amps.as_slice())?;
+        Ok(Vector {
+            qubits: self.qubits,
+            amps,
+        })
+    }
+
     pub fn qubits(&self) -> u32
         ensures value { result ≡ self.now.qubits }
         ensures valid { IsStateVector self.now.qubits self.now.amps }
