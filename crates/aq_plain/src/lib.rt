@@ -2,14 +2,28 @@
 #![tactic(auto)]
 
 mod apply;
+#[cfg(test)]
+mod built;
+pub mod laws;
+mod listing;
+#[cfg(test)]
+mod listing_tests;
+mod parts;
 mod places;
 mod project;
 mod row;
+mod rows;
+mod sizes;
+mod stop;
+mod tensors;
 #[cfg(test)]
 mod tests;
 mod vector;
 
 pub use apply::apply_plain;
+pub use listing::vectors;
 pub use project::project_plain;
 pub use row::WideSum;
+pub use sizes::{Size, capped_product, capped_sum, sizes_of};
+pub use stop::VectorStop;
 pub use vector::Vector;

@@ -41,6 +41,26 @@ impl Vector {
         Ok(Vector { qubits, amps })
     }
 
+    /// The state with these amplitudes.
+    pub(crate) fn from_amps(qubits: u32, amps: Vec<Amp>) -> Vector
+        requires { IsStateVector qubits amps.items }
+        ensures qubits { result.qubits ≡ qubits }
+        ensures amps { result.amps ≡ amps.items }
+    {
+        Vector { qubits, amps }
+    }
+
+    /// The same state once more. Fails only for want of memory.
+    pub fn copy(&self, alloc: Global) -> Result<Vector, AllocError>
+        ensures { IfOk result (λ v. v ≡ self.now) }
+    {
+        let amps = Vec::from_slice(alloc, self.amps.as_slice())?;
+        Ok(Vector {
+            qubits: self.qubits,
+            amps,
+        })
+    }
+
     pub fn qubits(&self) -> u32
         ensures value { result ≡ self.now.qubits }
         ensures valid { IsStateVector self.now.qubits self.now.amps }

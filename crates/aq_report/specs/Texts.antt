@@ -66,6 +66,7 @@ refutation_text r = state_text (codes "  bits ") (codes "  state ") r.bits r.sta
 
 abbrev pub why_text : Why → List ℕ
 why_text why.Width = codes "width"
+why_text why.Steps = codes "steps"
 why_text why.Memory = codes "memory"
 
 -- the line that a refutation begins with

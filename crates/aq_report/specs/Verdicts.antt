@@ -1,5 +1,5 @@
 -- When a verdict is justified.
-use Rattle.std.specs.Prelude.{◌≡◌}
+use Rattle.std.specs.Prelude.{◌≡◌, ℕ, ◌<◌}
 use Rattle.aq_obligations.specs.Obligations.{Obligation, Shown, IsTrueOf, IsCounterexample}
 use Rattle.aq_obligations.specs.Wide.{IsWide}
 use Rattle.aq_obligations.specs.Worlds.{IsRefutation}
@@ -19,9 +19,11 @@ pub record IsRefutedBy (o : Obligation) (r : Refutation) : Type 0 where
   pub refutation : IsRefutation o (shown_by r)
   pub counterexample : IsCounterexample o (shown_by r)
 
--- Want of memory is the one free answer.
-abbrev pub IsJustified : Obligation → Verdict → Type 0
-IsJustified o verdict.Verified = IsTrueOf o
-IsJustified o (verdict.Refuted r) = IsRefutedBy o r
-IsJustified o (verdict.GaveUp why.Width) = IsWide o
-IsJustified o (verdict.GaveUp why.Memory) = Unit {0}
+-- A verdict under a limit of steps, where so many are enough. Steps are given up for only where the limit is below that
+-- number, and want of memory is the one free answer.
+abbrev pub IsJustified : ℕ → ℕ → Obligation → Verdict → Type 0
+IsJustified limit enough o verdict.Verified = IsTrueOf o
+IsJustified limit enough o (verdict.Refuted r) = IsRefutedBy o r
+IsJustified limit enough o (verdict.GaveUp why.Width) = IsWide o
+IsJustified limit enough o (verdict.GaveUp why.Steps) = limit < enough
+IsJustified limit enough o (verdict.GaveUp why.Memory) = Unit {0}

@@ -37,7 +37,7 @@ fn basis(alloc: Global, qubits: u32, index: usize) -> Result<Vector, Fail>
 
 #[test]
 fn heads_and_short_verdicts(rt: HostRuntime) {
-    let rows: [(u32, Kind, u32, Verdict, &[u8]); 6] = [
+    let rows: [(u32, Kind, u32, Verdict, &[u8]); 7] = [
         (1, Kind::Post, 0, Verdict::Verified, b"1 post: verified\n"),
         (
             2,
@@ -73,6 +73,13 @@ fn heads_and_short_verdicts(rt: HostRuntime) {
             9,
             Verdict::GaveUp(Why::Memory),
             b"4 post: gave up memory\n",
+        ),
+        (
+            1,
+            Kind::Post,
+            0,
+            Verdict::GaveUp(Why::Steps),
+            b"1 post: gave up steps\n",
         ),
     ];
     for (number, kind, line, verdict, wanted) in &rows {

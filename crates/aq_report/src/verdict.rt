@@ -6,6 +6,8 @@ use sqlite_items::Items;
 pub enum Why {
     /// A number that the obligation needs doesn't fit.
     Width,
+    /// The limit of steps is below the number that is enough for the obligation.
+    Steps,
     /// Out of memory.
     Memory,
 }

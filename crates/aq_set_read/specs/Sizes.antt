@@ -1,5 +1,5 @@
 -- How large an expression is. The numbers have no width: names that are used in names can make them as large as one likes.
-use Rattle.std.specs.Prelude.{ℕ, zero, suc, ◌+◌, ◌*◌, ◌^◌, List, [], ◌∷◌, ◌++◌, length, replicate, max}
+use Rattle.std.specs.Prelude.{ℕ, zero, suc, ◌+◌, ◌-◌, ◌*◌, ◌^◌, List, [], ◌∷◌, ◌++◌, length, replicate, take, drop, min, max, nat_lt, if◌then◌else◌}
 use Rattle.std.specs.List.{fold, repeat}
 use Rattle.aq_set_read.specs.Tables.{table, at_position}
 use Rattle.aq_set_read.specs.declared.sets.Expr.{Expr}
@@ -58,3 +58,64 @@ qubits_step done (expr.Power base times) = at_position 0 done base * times
 -- how many words a shape has: one choice for each qubit
 abbrev pub words : List ℕ → ℕ
 words shape = fold (λ product n. product * n) 1 shape
+
+-- ---- places
+--
+-- A word has one choice for each qubit. It leads to a position among the vectors that an expression lists.
+
+abbrev pub Placing : Type 0
+Placing = List ℕ → ℕ
+
+-- where every word leads to the first vector
+abbrev pub first_place : Placing
+first_place word = 0
+
+-- the digits of a word as a binary number
+abbrev pub number_of : Placing
+number_of word = fold (λ n digit. 2 * n + digit) 0 word
+
+-- a choice past the number of choices means the last one
+abbrev pub shortened : List ℕ → List ℕ → List ℕ
+shortened [] word = word
+shortened (n ∷ shape) [] = []
+shortened (n ∷ shape) (choice ∷ word) = min choice (n - 1) ∷ shortened shape word
+
+-- the choices below the first qubit
+abbrev pub lower : List ℕ → List ℕ
+lower shape = drop 1 shape
+
+-- how many choices there are at the first qubit
+abbrev pub first_number : List ℕ → ℕ
+first_number [] = 0
+first_number (n ∷ shape) = n
+
+-- the place of the left part among the left vectors, and for each of them one for each right vector
+abbrev pub tensor_place : Size → Size → Placing → Placing → Placing
+tensor_place l r left right word = left (take l.qubits word) * r.count + right (drop l.qubits word)
+
+-- The first choice tells the side: those of the left side come first, and the right vectors stand behind the left ones. On
+-- either side a later choice past that side's number means that side's last choice.
+abbrev pub union_place : Size → Size → Placing → Placing → Placing
+union_place l r left right [] = 0
+union_place l r left right (choice ∷ word) =
+    if nat_lt choice (first_number l.shape)
+    then left (choice ∷ shortened (lower l.shape) word)
+    else l.count + right ((choice - first_number l.shape) ∷ shortened (lower r.shape) word)
+
+-- a power is the tensor product of so many times the base, from the left to the right
+abbrev pub power_place : ℕ → Size → Placing → Placing
+power_place zero b base word = 0
+power_place (suc zero) b base word = base word
+power_place (suc (suc n)) b base word =
+    power_place (suc n) b base (take (b.qubits * suc n) word) * b.count + base (drop (b.qubits * suc n) word)
+
+abbrev pub place_step : (ℕ → Size) → List Placing → Expr → Placing
+place_step size done (expr.Kets qubits terms) = first_place
+place_step size done (expr.All qubits) = number_of
+place_step size done (expr.Tensor left right) = tensor_place (size left) (size right) (at_position first_place done left) (at_position first_place done right)
+place_step size done (expr.Union left right) = union_place (size left) (size right) (at_position first_place done left) (at_position first_place done right)
+place_step size done (expr.Power base times) = power_place times (size base) (at_position first_place done base)
+
+-- the place to which a word leads in the list of the expression at a position
+unfoldable pub place : List Expr → ℕ → Placing
+place exprs i = at_position first_place (table (place_step (size_of exprs)) exprs) i

@@ -1,0 +1,39 @@
+use Rattle.std.proofs.Common.{◌≡◌, ◌<◌, ◌≤◌, ◌∙◌, List, length, ap, sym, arith}
+use Rattle.std.proofs.lemmas.Result.{err_from_is_err_and}
+use Rattle.aq_set_read.specs.Vectors.{vectors_of, products_of, lists}
+use Rattle.aq_set_read.specs.Sizes.{size_of}
+use Rattle.aq_set_read.specs.declared.sets.Expr.{Expr}
+use Rattle.aq_plain.specs.Listing.{states_of}
+use Rattle.aq_plain.proofs.ToldLaws.{valid_exprs}
+use Rattle.aq_plain.proofs.WholeLaws.{too_many, not_too_many, long_rows, gives_stop}
+use Rattle.aq_plain.proofs.listing.vectors.Goals as goal
+
+pub returns-then-count-from : goal.returns-then-count-from
+returns-then-count-from c =
+    let count = rw c.as_slice-exprs.ensures at c.in_ok-qubits.ensures.count in
+    too_many c.args.sets.now.exprs (valid_exprs _ c.requires.valid) c.args.expr c.in_ok-qubits.count c.args.most c.requires.within count (omega arith)
+
+pub returns-in_err-rows : goal.returns-in_err-rows
+returns-in_err-rows c =
+    let p = err_from_is_err_and c.from_residual-in_err-rows.result c.from_residual-in_err-rows.ensures.1 in
+    let count = rw c.as_slice-exprs.ensures at c.in_ok-qubits.ensures.count in
+    let h = rw c.as_slice-exprs.ensures at c.in_err-rows.ensures in
+    rw (p.1, p.2)
+    (gives_stop c.args.sets.now.exprs c.args.expr c.args.most _
+    (not_too_many c.args.sets.now.exprs (valid_exprs _ c.requires.valid) c.args.expr c.in_ok-qubits.count c.args.most c.requires.within count (omega arith) (omega arith)) h)
+
+pub vectors_of_rows-requires-clause-long : goal.vectors_of_rows-requires-clause-long
+vectors_of_rows-requires-clause-long c =
+    let qubits = rw c.as_slice-exprs.ensures at c.in_ok-qubits.ensures.qubits in
+    let rows = rw c.as_slice-exprs.ensures at c.in_ok-rows.ensures.0 in
+    long_rows c.args.sets.now.exprs (valid_exprs _ c.requires.valid) c.args.expr c.in_ok-qubits.qubits c.in_ok-rows.rows.items c.requires.within qubits rows
+
+pub returns : goal.returns
+returns c =
+    let count = rw c.as_slice-exprs.ensures at c.in_ok-qubits.ensures.count in
+    let qubits = rw c.as_slice-exprs.ensures at c.in_ok-qubits.ensures.qubits in
+    let rows = rw c.as_slice-exprs.ensures at c.in_ok-rows.ensures in (
+      not_too_many c.args.sets.now.exprs (valid_exprs _ c.requires.valid) c.args.expr c.in_ok-qubits.count c.args.most c.requires.within count (omega arith) (omega arith),
+      c.in_ok-list.ensures ∙ (λ k. states_of (qubits k) (rows.0 k)),
+      rows.1,
+    )
