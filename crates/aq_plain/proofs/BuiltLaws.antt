@@ -1,6 +1,6 @@
 -- Tables of expressions that are put together one by one.
-use Rattle.std.proofs.Common.{◌≡◌, ℕ, zero, suc, ◌+◌, ◌*◌, ◌^◌, ◌<◌, ◌≤◌, List, [], ◌∷◌, ◌++◌, Some, length, take, refl, sym, ap, ◌∙◌, subst, ⊎_elim, arith}
-use Rattle.std.specs.Prelude.{slice_get, map, nat_eq}
+use Rattle.std.proofs.Common.{◌≡◌, ℕ, zero, suc, ◌+◌, ◌*◌, ◌^◌, ◌<◌, ◌≤◌, List, [], ◌∷◌, ◌++◌, Some, length, refl, sym, ap, ◌∙◌, subst, ⊎_elim, arith}
+use Rattle.std.specs.Prelude.{slice_get}
 use Rattle.std.specs.List.{All, IsDistinct}
 use Rattle.std.proofs.lemmas.Bool.{cases_lt, ne_eqb}
 use Rattle.std.proofs.lemmas.List.{length_push, take_at}
@@ -119,17 +119,18 @@ unfolding IsDistinct
 push_ket exprs valid room q t terms new e some few within made =
     subst AreValidExprs (sym (made ∙ ap (λ (ts : List Term). exprs ++ expr.Kets q ts ∷ []) e))
     (valid_push exprs (expr.Kets q (t ∷ [])) valid room
-      (omega arith, All-cons (λ s. s.index < 2 ^ q) t [] within (All-nil (λ s. s.index < 2 ^ q)), (tt, tt)) some few)
+    (omega arith, All-cons (λ s. s.index < 2 ^ q) t [] within (All-nil (λ s. s.index < 2 ^ q)), (tt, tt)) some few)
 
 pub push_kets : (exprs : List Expr) → AreValidExprs exprs → length exprs < 1000 → (q : ℕ) (t s : Term) (terms : List Term) (new : List Expr) → terms ≡ t ∷ s ∷ []
     → 0 < q → q ≤ 16 → t.index < 2 ^ q → s.index < 2 ^ q → (t.index ≡ s.index → ⊥) → new ≡ exprs ++ expr.Kets q terms ∷ [] → AreValidExprs new
 unfolding IsDistinct
 push_kets exprs valid room q t s terms new e some few first second other made =
     subst AreValidExprs (sym (made ∙ ap (λ (ts : List Term). exprs ++ expr.Kets q ts ∷ []) e))
-    (valid_push exprs (expr.Kets q (t ∷ s ∷ [])) valid room
-      (omega arith,
-        All-cons (λ u. u.index < 2 ^ q) t (s ∷ []) first (All-cons (λ u. u.index < 2 ^ q) s [] second (All-nil (λ u. u.index < 2 ^ q))),
-        ((ne_eqb t.index s.index other, tt), (tt, tt))) some few)
+    (valid_push exprs (expr.Kets q (t ∷ s ∷ [])) valid room (
+      omega arith,
+      All-cons (λ u. u.index < 2 ^ q) t (s ∷ []) first (All-cons (λ u. u.index < 2 ^ q) s [] second (All-nil (λ u. u.index < 2 ^ q))),
+      ((ne_eqb t.index s.index other, tt), (tt, tt)),
+    ) some few)
 
 pub push_all : (exprs : List Expr) → AreValidExprs exprs → length exprs < 1000 → (q : ℕ) (new : List Expr) → 0 < q → q ≤ 16
     → new ≡ exprs ++ expr.All q ∷ [] → AreValidExprs new

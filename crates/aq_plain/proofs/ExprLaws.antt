@@ -1,9 +1,8 @@
 -- What an expression lists and how large it is, by what the expressions that it names list and how large they are.
-use Rattle.std.proofs.Common.{◌≡◌, ℕ, suc, ◌+◌, ◌*◌, ◌^◌, ◌<◌, ◌≤◌, List, [], ◌∷◌, ◌++◌, Some, length, take, refl, sym, ap, ◌∙◌, arith}
+use Rattle.std.proofs.Common.{◌≡◌, ℕ, ◌+◌, ◌*◌, ◌^◌, List, [], ◌∷◌, ◌++◌, Some, length, ap, ◌∙◌, arith}
 use Rattle.std.specs.Prelude.{slice_get, replicate}
 use Rattle.std.specs.List.{repeat}
 use Rattle.std.proofs.lemmas.Option.{slice_get_within}
-use Rattle.aq_set_read.specs.Tables.{at_position}
 use Rattle.aq_set_read.specs.Vectors.{Listed, nothing_listed, listed, tensored, united, power, kets_vector, basis, listed_step, lists}
 use Rattle.aq_set_read.specs.Sizes.{Size, no_size, united_shape, size_step, size_of}
 use Rattle.aq_set_read.specs.Valid.{IsValidExpr}

@@ -1,22 +1,21 @@
 -- Work that is put off: the positions of expressions, of which the last comes first.
-use Rattle.std.proofs.Common.{◌≡◌, ℕ, zero, suc, ◌+◌, ◌*◌, ◌<◌, ◌≤◌, Bool, true, false, cond, eqb, List, [], ◌∷◌, ◌++◌, Some, length, get_or, take, refl, sym, ap, ◌∙◌, subst, arith}
+use Rattle.std.proofs.Common.{◌≡◌, ℕ, zero, suc, ◌+◌, ◌<◌, ◌≤◌, Bool, true, false, cond, eqb, List, [], ◌∷◌, ◌++◌, Some, length, get_or, take, refl, sym, ap, ◌∙◌, subst, arith}
 use Rattle.std.proofs.Common.{eqb-true}
 use Rattle.std.specs.Prelude.{slice_get}
 use Rattle.std.specs.List.{All}
 use Rattle.std.proofs.lemmas.List.{append_assoc, append-nil, take_more, take_all}
-use Rattle.std.proofs.lemmas.List.Elements.{All-nil, All-cons, All-append, All-pop}
+use Rattle.std.proofs.lemmas.List.Elements.{All-nil, All-cons, All-pop}
 use Rattle.std.proofs.lemmas.Option.{slice_get_within, same_Some}
 use Rattle.std.proofs.lemmas.Bool.{eqb-false}
 use Rattle.aq_set_read.specs.Vectors.{Vector, Listed, nothing_listed, listed, united, power, tensors, all_pairs, kets_vector, basis, lists}
 use Rattle.aq_set_read.specs.Sizes.{Size, size_of}
-use Rattle.aq_set_read.specs.Valid.{IsValidExpr}
 use Rattle.aq_set_read.specs.declared.sets.Term.{Term}
 use Rattle.aq_set_read.specs.declared.sets.Expr.{Expr}
 use Rattle.aq_set_read.specs.declared.sets.Expr.TheVariants as expr
 use Rattle.aq_plain.specs.ValidExprs.{AreValidExprs}
 use Rattle.aq_plain.specs.Listing.{lists_in_turn, IsWhole, IsPartOf, opened, kept, AllFit, StopsAmong}
 use Rattle.aq_plain.specs.declared.stop.VectorStop.{VectorStop}
-use Rattle.aq_plain.proofs.ExprLaws.{listed_by, size_by, lists-is, size-is}
+use Rattle.aq_plain.proofs.ExprLaws.{lists-is, size-is}
 use Rattle.aq_plain.proofs.TakeLaws.{fit_none, fit_append, fit_same, fit_power, stops_left, stops_right, stops_same, stops_power, stops_power_of, power_vectors}
 
 -- what the work lists that is put off, from the last position to the first

@@ -2,7 +2,7 @@
 use Rattle.std.proofs.Common.{◌≡◌, ℕ, zero, suc, ◌+◌, ◌*◌, ◌^◌, ◌<◌, ◌≤◌, max, List, [], ◌∷◌, ◌++◌, Some, length, get_or, refl, sym, ap, ◌∙◌, subst, arith}
 use Rattle.std.specs.Prelude.{slice_get, replicate, map}
 use Rattle.std.specs.List.{All, flat_map, fold, repeat, range_with_len}
-use Rattle.std.proofs.Math.Nat.{mul-le-mul, mul-le-mul_left, mul-le-mul_right, pow-suc, pow-le-pow_left, mul_comm, mul_assoc, one-mul, mul-one, pow-zero}
+use Rattle.std.proofs.Math.Nat.{mul-le-mul, mul-le-mul_left, pow-suc, pow-le-pow_left, mul_comm, mul_assoc, one-mul, mul-one, pow-zero}
 use Rattle.std.proofs.lemmas.Nat.{pow-add}
 use Rattle.std.proofs.lemmas.List.{length-append, length-map, length-replicate}
 use Rattle.std.proofs.lemmas.List.Elements.{All-nil, All-cons, All-append, All-map, All-head, All-tail}
@@ -10,7 +10,7 @@ use Rattle.std.proofs.lemmas.List.FromFn.{length-map-range_with_len}
 use Rattle.std.proofs.lemmas.List.Sums.{fold-append}
 use Rattle.aq_ring.specs.Fractions.{Amplitude}
 use Rattle.aq_ring.specs.Amplitudes.{product}
-use Rattle.aq_set_read.specs.Vectors.{Vector, Listed, listed, tensored, united, power, entries, kets_vector, basis_vector, basis, tensor, tensors, lists, nothing_listed}
+use Rattle.aq_set_read.specs.Vectors.{Vector, Listed, power, entries, kets_vector, basis_vector, tensor, tensors, lists}
 use Rattle.aq_set_read.specs.Sizes.{Size, larger, united_shape, size_of, words}
 use Rattle.aq_set_read.specs.Valid.{IsValidExpr}
 use Rattle.aq_set_read.specs.declared.sets.Term.{Term}

@@ -1,14 +1,14 @@
 -- Products that are taken one after the other.
-use Rattle.std.proofs.Common.{◌≡◌, ℕ, zero, suc, ◌+◌, ◌-◌, ◌<◌, ◌≤◌, ⊎_elim, List, [], ◌∷◌, ◌++◌, Result, Ok, Err, length, get_or, take, refl, sym, ap, ◌∙◌, subst, arith}
+use Rattle.std.proofs.Common.{◌≡◌, ℕ, zero, suc, ◌+◌, ◌-◌, ◌<◌, ◌≤◌, ⊎_elim, List, [], ◌∷◌, ◌++◌, length, get_or, take, refl, sym, ap, ◌∙◌, subst, arith}
 use Rattle.std.specs.Prelude.{map}
 use Rattle.std.specs.List.{All, Contains, flat_map}
-use Rattle.std.proofs.lemmas.List.{append_assoc, append-nil, take_more, take_all, take_at, drop_at, map_more}
+use Rattle.std.proofs.lemmas.List.{append-nil, take_more, take_at, drop_at, map_more}
 use Rattle.std.proofs.lemmas.List.Concat.{flat_map-append}
 use Rattle.std.proofs.lemmas.List.Elements.{All-nil, All-cons, All-append, All-take, All-drop, Contains-append_left, Contains-append_right, Contains-append_cases}
 use Rattle.aq_ring.specs.Fractions.{Amplitude}
 use Rattle.aq_ring.specs.Amplitudes.{product, FitsAmplitudeProduct}
-use Rattle.aq_set_read.specs.Vectors.{Vector, Listed, listed, tensored, tensor, tensors, pairs, all_pairs, power}
-use Rattle.aq_plain.specs.Listing.{Operands, AllFit, IsWideAmong, StopsAmong, Takes}
+use Rattle.aq_set_read.specs.Vectors.{Vector, Listed, listed, tensor, tensors, all_pairs, power}
+use Rattle.aq_plain.specs.Listing.{Operands, AllFit, IsWideAmong, StopsAmong}
 use Rattle.aq_plain.specs.declared.stop.VectorStop.{VectorStop}
 use Rattle.aq_plain.specs.declared.stop.VectorStop.TheVariants as stop
 

@@ -1,5 +1,5 @@
 -- Sizes that are told up to a limit, by the sizes of the expressions before.
-use Rattle.std.proofs.Common.{◌≡◌, ℕ, zero, suc, ◌+◌, ◌*◌, ◌^◌, ◌<◌, ◌≤◌, max, List, [], ◌∷◌, ◌++◌, Some, Result, length, get_or, take, refl, sym, ap, ◌∙◌, subst, IfOk, arith}
+use Rattle.std.proofs.Common.{◌≡◌, ℕ, zero, suc, ◌+◌, ◌*◌, ◌^◌, ◌<◌, ◌≤◌, max, List, [], ◌∷◌, ◌++◌, Some, Result, length, get_or, take, refl, sym, ap, ◌∙◌, IfOk, arith}
 use Rattle.std.specs.Prelude.{slice_get, replicate, map}
 use Rattle.std.specs.List.{repeat}
 use Rattle.std.proofs.Math.Nat.{min-eq_left}
@@ -7,9 +7,9 @@ use Rattle.std.proofs.Math.Pow.{pow_mono}
 use Rattle.std.proofs.lemmas.List.{length-map, length-take-le, get_or-map, map-append, map_push, append-nil, append_assoc}
 use Rattle.std.proofs.lemmas.Option.{slice_get_within, slice_get_read, get_or_from_slice_get}
 use Rattle.std.proofs.lemmas.Result.{IfOk-weaker}
-use Rattle.aq_set_read.specs.Tables.{table, at_position}
-use Rattle.aq_set_read.specs.Sizes.{Size, no_size, larger, united_shape, size_step, size_of, words}
-use Rattle.aq_set_read.specs.Valid.{IsValidExpr, IsValidSets}
+use Rattle.aq_set_read.specs.Tables.{table}
+use Rattle.aq_set_read.specs.Sizes.{Size, no_size, larger, united_shape, size_step, size_of}
+use Rattle.aq_set_read.specs.Valid.{IsValidSets}
 use Rattle.aq_set_read.specs.declared.sets.Term.{Term}
 use Rattle.aq_set_read.specs.declared.sets.Expr.{Expr}
 use Rattle.aq_set_read.specs.declared.sets.Expr.TheVariants as expr

@@ -1,11 +1,9 @@
 -- The vectors of an expression, once its size is told.
-use Rattle.std.proofs.Common.{◌≡◌, ℕ, ◌+◌, ◌^◌, ◌<◌, ◌≤◌, List, Err, length, refl, sym, ap, ◌∙◌, subst, arith}
+use Rattle.std.proofs.Common.{◌≡◌, ℕ, ◌^◌, ◌<◌, ◌≤◌, List, Err, length, sym, subst, arith}
 use Rattle.std.specs.List.{All}
-use Rattle.aq_set_read.specs.Vectors.{Vector, vectors_of, products_of, lists}
+use Rattle.aq_set_read.specs.Vectors.{Vector, vectors_of, products_of}
 use Rattle.aq_set_read.specs.Sizes.{size_of}
-use Rattle.aq_set_read.specs.Valid.{IsValidSets}
 use Rattle.aq_set_read.specs.declared.sets.Expr.{Expr}
-use Rattle.aq_set_read.specs.declared.sets.Sets.{Sets}
 use Rattle.aq_plain.specs.Caps.{capped}
 use Rattle.aq_plain.specs.ValidExprs.{AreValidExprs}
 use Rattle.aq_plain.specs.Listing.{StopsAmong, VectorsGive}

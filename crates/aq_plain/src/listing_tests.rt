@@ -36,10 +36,7 @@ fn stop_of(alloc: Global, sets: &Sets, expr: u32, most: u64) -> Result<Option<Ve
     if expr as usize >= sets.exprs.len() {
         return Err(Fail::from(NotThere));
     }
-    match vectors(alloc, sets, expr, most) {
-        Ok(_) => Ok(None),
-        Err(stop) => Ok(Some(stop)),
-    }
+    Ok(vectors(alloc, sets, expr, most).err())
 }
 
 /// Whether the vectors have these amplitudes, in this order.

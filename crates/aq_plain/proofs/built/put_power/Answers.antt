@@ -1,4 +1,4 @@
-use Rattle.std.proofs.Common.{◌≡◌, ◌<◌, ◌≤◌, ◌*◌, length, ap, ◌∙◌, sym, arith}
+use Rattle.std.proofs.Common.{◌*◌, ap, arith}
 use Rattle.aq_plain.proofs.BuiltLaws.{push_power}
 use Rattle.aq_plain.proofs.built.put_power.Goals as goal
 

@@ -1,4 +1,4 @@
-use Rattle.std.proofs.Common.{◌≡◌, ◌<◌, ◌≤◌, length, arith}
+use Rattle.std.proofs.Common.{arith}
 use Rattle.aq_plain.proofs.BuiltLaws.{push_tensor}
 use Rattle.aq_plain.proofs.built.put_tensor.Goals as goal
 

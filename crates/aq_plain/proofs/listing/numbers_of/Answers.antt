@@ -1,4 +1,4 @@
-use Rattle.std.proofs.Common.{◌≡◌, ◌∙◌, ◌<◌, ap, length, arith}
+use Rattle.std.proofs.Common.{◌∙◌, ap, arith}
 use Rattle.aq_plain.specs.declared.sizes.Size as told
 use Rattle.aq_plain.proofs.ToldLaws.{length-told, told_at}
 use Rattle.aq_plain.proofs.listing.numbers_of.Goals as goal

@@ -1,8 +1,5 @@
-use Rattle.std.proofs.Common.{◌≡◌, ◌<◌, ◌≤◌, ◌∙◌, List, length, ap, sym, arith}
+use Rattle.std.proofs.Common.{◌∙◌, arith}
 use Rattle.std.proofs.lemmas.Result.{err_from_is_err_and}
-use Rattle.aq_set_read.specs.Vectors.{vectors_of, products_of, lists}
-use Rattle.aq_set_read.specs.Sizes.{size_of}
-use Rattle.aq_set_read.specs.declared.sets.Expr.{Expr}
 use Rattle.aq_plain.specs.Listing.{states_of}
 use Rattle.aq_plain.proofs.ToldLaws.{valid_exprs}
 use Rattle.aq_plain.proofs.WholeLaws.{too_many, not_too_many, long_rows, gives_stop}

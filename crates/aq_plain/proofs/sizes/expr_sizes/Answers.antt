@@ -1,7 +1,6 @@
-use Rattle.std.proofs.Common.{◌≡◌, ◌<◌, ◌≤◌, ◌∙◌, ◌++◌, ◌∷◌, [], length, ap, sym, take, List, ℕ, arith}
+use Rattle.std.proofs.Common.{◌∙◌, ◌++◌, ◌∷◌, [], ap, take, List, arith}
 use Rattle.std.proofs.lemmas.List.{take_all}
-use Rattle.aq_set_read.specs.Sizes.{size_of}
-use Rattle.aq_plain.specs.Caps.{capped_size, capped_sizes}
+use Rattle.aq_plain.specs.Caps.{capped_sizes}
 use Rattle.aq_plain.specs.declared.sizes.Size as told
 use Rattle.aq_plain.proofs.SizeLaws.{there}
 use Rattle.aq_plain.proofs.ToldLaws.{sizes_none, sizes_more}

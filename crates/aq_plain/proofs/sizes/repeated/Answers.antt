@@ -1,4 +1,4 @@
-use Rattle.std.proofs.Common.{◌≡◌, ◌∙◌, ◌++◌, ap, add-one, arith}
+use Rattle.std.proofs.Common.{◌∙◌, ◌++◌, ap, add-one}
 use Rattle.std.proofs.Common.{List, ℕ, sym}
 use Rattle.std.specs.List.{repeat}
 use Rattle.aq_plain.proofs.ToldLaws.{repeat_more}

@@ -1,5 +1,4 @@
-use Rattle.std.proofs.Common.{◌≡◌, ◌<◌, ◌≤◌, length, arith}
-use Rattle.aq_set_read.specs.declared.sets.Expr.TheVariants as expr
+use Rattle.std.proofs.Common.{arith}
 use Rattle.aq_plain.proofs.ToldLaws.{gives_same, expr_at, length-done, done_at, told_kets, few_all, told_all, few_tensor, told_tensor-at, same_shapes, told_union-at, few_power, told_power-at}
 use Rattle.aq_plain.proofs.sizes.size_at.Goals as goal
 

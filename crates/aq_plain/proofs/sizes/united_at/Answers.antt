@@ -1,5 +1,5 @@
-use Rattle.std.proofs.Common.{◌≡◌, ap, ◌<◌, arith}
-use Rattle.aq_plain.proofs.ToldLaws.{united-first, united-later}
+use Rattle.std.proofs.Common.{arith}
+use Rattle.aq_plain.proofs.ToldLaws.{united-later}
 use Rattle.aq_plain.proofs.sizes.united_at.Goals as goal
 
 pub returns-else-i-eq0 : goal.returns-else-i-eq0

@@ -1,9 +1,8 @@
-use Rattle.std.proofs.Common.{◌≡◌, ◌<◌, ◌≤◌, ◌∙◌, ◌++◌, ◌∷◌, [], List, length, take, ap, sym, arith}
+use Rattle.std.proofs.Common.{◌∙◌, ◌++◌, ◌∷◌, [], List, take, ap, arith}
 use Rattle.std.specs.Prelude.{map}
 use Rattle.std.proofs.lemmas.List.{append_assoc, take_all}
 use Rattle.aq_ring.specs.Fractions.{Amplitude}
 use Rattle.aq_ring.specs.Amplitudes.{product}
-use Rattle.aq_plain.specs.Listing.{Operands}
 use Rattle.aq_plain.proofs.TakeLaws.{fit_one, fit_append, fit_same, fit_more, map_take_more}
 use Rattle.aq_plain.proofs.tensors.push_products.Goals as goal
 
