@@ -1,27 +1,26 @@
 -- How the parts of a run make its ends, and what these say.
-use Rattle.std.proofs.Common.{◌≡◌, ℕ, Bool, true, false, List, Option, Some, None, refl, sym, ◌∙◌, subst, ◌⊎◌, inl, inr}
+use Rattle.std.proofs.Common.{◌≡◌, ℕ, Bool, true, false, List, Option, Some, None, Result, Ok, refl, sym, ap₂, ◌∙◌, subst, ◌⊎◌, inl, inr}
 use Rattle.std.specs.Io.KnownBytes.{Appends}
 use Rattle.aq_world.specs.Held.{Held, bytes_at}
 use Rattle.aq_obligations.specs.Correct.{IsCorrect}
 use Rattle.aq_obligations.specs.Obligations.{Obligation, IsTrueOf}
-use Rattle.aq_obligations.proofs.GatesAloneProofs.{gates_alone_laws}
+use Rattle.aq_obligations.proofs.GatesOnlyProofs.{gates_only_laws}
+use Rattle.aq_obligations.specs.Bound.{Asked}
+use Rattle.aq_obligations.specs.declared.bound.ClaimFault.{ClaimFault}
 use Rattle.aq_report.specs.declared.verdict.Verdict.{Verdict}
 use Rattle.aq_report.specs.declared.verdict.Verdict.TheVariants as verdict
 use Rattle.aq_report.specs.Verdicts.{IsJustified}
-use Rattle.aq_thin.specs.SetTexts.{IsThinSets}
-use Rattle.aq_thin.proofs.ClaimLaws.{one_sets}
 use Rattle.aq_elab.proofs.TextsLaws.{one_program}
-use Rattle.aq_prog.specs.declared.program.Program.{Program}
-use Rattle.aq_prog.specs.declared.stmt.Stmt.{Stmt}
-use Rattle.aq_obligations.specs.GatesAlone.{plain_obligation, plain_program}
-use Rattle.aq_top.specs.Bodies.{are_gates, gates_in}
+use Rattle.aq_judge.specs.Bodies.{are_gates, gates_in}
 use Rattle.aq_top.specs.Faults.{is_memory, refused_or_memory}
+use Rattle.aq_top.specs.SetFaults.{is_set_memory, is_claim_memory}
+use Rattle.aq_top.proofs.SetsLemmas.{one_sets}
 use Rattle.aq_top.proofs.StmtLemmas.{body_is}
 use Rattle.aq_top.specs.Clauses.{IsAnswer, Reports, Ends, ToldIsCorrect, ReadsFailed}
 use Rattle.aq_top.specs.Ends.{MayHold, ReadsTask, HasCause, stop_text, stop_status, verdict_status, post_report, IsEndText, EndsAs}
 use Rattle.aq_top.specs.Lines.{usage_text}
 use Rattle.aq_top.specs.Said.{Said}
-use Rattle.aq_top.specs.Tasks.{Task, IsTask, obligation_of, program_of, bracket_vector}
+use Rattle.aq_top.specs.Tasks.{Task, IsTask, claims_asked, most_steps, enough_for, obligation_of, program_of}
 use Rattle.aq_top.specs.Words.{CheckWords}
 use Rattle.aq_top.specs.declared.load.Stop.{Stop}
 use Rattle.aq_top.specs.declared.load.Stop.TheVariants as stop
@@ -45,7 +44,7 @@ stop_ends told RF WF w s result written cause said =
     said_ends told RF WF (Some w) (stop_status s) result (stop_text w s) written (inr (record { stop = s; cause = cause; status_is = refl; text_is = refl })) said
 
 pub report_ends : (told : Option Held) (RF : List ℕ → Type 0) (WF : Type 0) (w : CheckWords) (t : Task) (v : Verdict) (result : Status) (written : List ℕ) → ReadsTask told w t
-    → IsJustified (obligation_of t) v → Said WF (verdict_status v) (post_report v) result written → EndsAs told RF WF (Some w) result written
+    → IsJustified most_steps (enough_for t) (obligation_of t) v → Said WF (verdict_status v) (post_report v) result written → EndsAs told RF WF (Some w) result written
 report_ends told RF WF w t v result written read justified said =
     said_ends told RF WF (Some w) (verdict_status v) result (post_report v) written (inl (record { task = t; read = read; verdict = v; justified = justified; status_is = refl; text_is = refl })) said
 
@@ -60,7 +59,8 @@ no_answer (stop.ProgramRefused f) a = no_fault_answer (is_memory f) a
 no_answer stop.ProgramUnbuilt a = a
 no_answer stop.SetsUnread a = a
 no_answer stop.SetsTooLong a = a
-no_answer stop.SetsUnbuilt a = a
+no_answer (stop.SetsRefused f) a = no_fault_answer (is_set_memory f) a
+no_answer (stop.ClaimRefused f) a = no_fault_answer (is_claim_memory f) a
 no_answer stop.Memory a = a
 
 -- an answer is a report
@@ -82,28 +82,25 @@ good_verdict verdict.Verified e = refl
 good_verdict (verdict.Refuted r) e = cc
 good_verdict (verdict.GaveUp w) e = cc
 
-true_of : (o : Obligation) (v : Verdict) → status.Good ≡ verdict_status v → IsJustified o v → IsTrueOf o
-true_of o v e j = subst (IsJustified o) (good_verdict v e) j
+true_of : (limit enough : ℕ) (o : Obligation) (v : Verdict) → status.Good ≡ verdict_status v → IsJustified limit enough o v → IsTrueOf o
+true_of limit enough o v e j = subst (IsJustified limit enough o) (good_verdict v e) j
 
-same_task : (s t : Task) → s.program ≡ t.program → s.before ≡ t.before → s.after ≡ t.after → s ≡ t
-same_task s t a b c = λ i. record { program = a i; before = b i; after = c i }
+same_task : (s t : Task) → s.program ≡ t.program → s.sets ≡ t.sets → s.claims ≡ t.claims → s ≡ t
+same_task s t a b c = λ i. record { program = a i; sets = b i; claims = c i }
+
+asked_is : (x y : Asked) → ◌≡◌ {A = Result Asked ClaimFault} (Ok x) (Ok y) → x ≡ y
+asked_is x y e = cc
 
 -- two texts say one task
 one_task : (p q : List ℕ) (s t : Task) → IsTask p q s → IsTask p q t → s ≡ t
 one_task p q s t x y =
-    let one : s.program ≡ t.program = one_program p s.program t.program x.program_is y.program_is in
-    let sets = one_sets q t.program.qubits s.before s.after t.before t.after (subst (λ (o : Program). IsThinSets q o.qubits s.before s.after) one x.sets_are) y.sets_are in
-    same_task s t one sets.before_is sets.after_is
+    let program : s.program ≡ t.program = one_program p s.program t.program x.program_is y.program_is in
+    let sets : s.sets ≡ t.sets = one_sets q s.sets t.sets x.sets_are y.sets_are in
+    same_task s t program sets (asked_is s.claims t.claims (sym x.claims_are ∙ ap₂ claims_asked program sets ∙ y.claims_are))
 
 -- a program of gates alone that meets its obligation is correct
 task_correct : (t : Task) → are_gates t.program.body ≡ true → IsTrueOf (obligation_of t) → IsCorrect (program_of t)
-task_correct t gates holds =
-    let p = t.program in
-    let before = bracket_vector p.qubits t.before in
-    let after = bracket_vector p.qubits t.after in
-    let e = body_is p.body gates in
-    subst (λ (b : List Stmt). IsCorrect (plain_program p.qubits p.bits b before after)) (sym e)
-    (gates_alone_laws.correct p.qubits p.bits (gates_in p.body) before after (subst (λ (b : List Stmt). IsTrueOf (plain_obligation p.qubits p.bits b before after)) e holds))
+task_correct t gates holds = gates_only_laws.correct t.program t.sets t.claims (gates_in t.program.body) (body_is t.program.body gates) holds
 
 told_task : (told : Option Held) (held : Held) (w : CheckWords) (s t : Task) → told ≡ Some held → ReadsTask told w s → IsTask (bytes_at held w.program) (bytes_at held w.sets) t → s ≡ t
 told_task told held w s t e read says =
@@ -122,7 +119,7 @@ correct_of told words before after r = λ held w t told_is words_are says.
     let read : ReadsTask told w report.task = subst (λ (x : CheckWords). ReadsTask told x report.task) same report.read in
     let task : report.task ≡ t = told_task told held w report.task t told_is read says in
     subst (λ (x : Task). IsCorrect (program_of x)) task
-    (task_correct report.task read.gates (true_of (obligation_of report.task) report.verdict report.status_is report.justified))
+    (task_correct report.task read.gates (true_of most_steps (enough_for report.task) (obligation_of report.task) report.verdict report.status_is report.justified))
 
 pub good_is_correct : (told : Option Held) (RF : List ℕ → Type 0) (WF : Type 0) (words : Option CheckWords) (before after : Option (List ℕ)) (result : Status)
     → Ends told RF WF words before after result → result ≡ status.Good → ToldIsCorrect told words
@@ -141,7 +138,8 @@ read_stop told RF w (stop.ProgramRefused f) e cause = absurd (fault_unread (is_m
 read_stop told RF w stop.ProgramUnbuilt e cause = cc
 read_stop told RF w stop.SetsUnread e cause = inr cause.then
 read_stop told RF w stop.SetsTooLong e cause = cc
-read_stop told RF w stop.SetsUnbuilt e cause = cc
+read_stop told RF w (stop.SetsRefused f) e cause = absurd (fault_unread (is_set_memory f) e)
+read_stop told RF w (stop.ClaimRefused f) e cause = absurd (fault_unread (is_claim_memory f) e)
 read_stop told RF w stop.Memory e cause = cc
 
 verdict_unread : (v : Verdict) → status.Read ≡ verdict_status v → ⊥
@@ -171,7 +169,8 @@ stop_unwritten (stop.ProgramRefused f) e = fault_unwritten (is_memory f) e
 stop_unwritten stop.ProgramUnbuilt e = cc
 stop_unwritten stop.SetsUnread e = cc
 stop_unwritten stop.SetsTooLong e = cc
-stop_unwritten stop.SetsUnbuilt e = cc
+stop_unwritten (stop.SetsRefused f) e = fault_unwritten (is_set_memory f) e
+stop_unwritten (stop.ClaimRefused f) e = fault_unwritten (is_claim_memory f) e
 stop_unwritten stop.Memory e = cc
 
 verdict_unwritten : (v : Verdict) → status.Write ≡ verdict_status v → ⊥
@@ -201,7 +200,8 @@ stop_unused (stop.ProgramRefused f) e = fault_unused (is_memory f) e
 stop_unused stop.ProgramUnbuilt e = cc
 stop_unused stop.SetsUnread e = cc
 stop_unused stop.SetsTooLong e = cc
-stop_unused stop.SetsUnbuilt e = cc
+stop_unused (stop.SetsRefused f) e = fault_unused (is_set_memory f) e
+stop_unused (stop.ClaimRefused f) e = fault_unused (is_claim_memory f) e
 stop_unused stop.Memory e = cc
 
 verdict_unused : (v : Verdict) → status.Usage ≡ verdict_status v → ⊥

@@ -1,4 +1,4 @@
-pub mod JudgeLemmas
 pub mod SayLemmas
 pub mod EndsLemmas
 pub mod StmtLemmas
+pub mod SetsLemmas

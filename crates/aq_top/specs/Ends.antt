@@ -1,5 +1,5 @@
 -- How a run ends: what is written in the end, and why.
-use Rattle.std.specs.Prelude.{◌≡◌, ℕ, ◌<◌, ◌≤◌, true, false, List, [], ◌∷◌, length, Option, Some, None, IfSome, ◌⊎◌}
+use Rattle.std.specs.Prelude.{◌≡◌, ℕ, ◌<◌, ◌≤◌, true, false, List, [], ◌∷◌, length, Option, Some, None, IfSome, Err, ◌⊎◌}
 use Rattle.aq_world.specs.Causes.{Rose, Blame}
 use Rattle.aq_world.specs.Held.{Held, bytes_at}
 use Rattle.aq_world.specs.Prints.{IsPrefixOf}
@@ -9,13 +9,17 @@ use Rattle.aq_report.specs.declared.verdict.Verdict.TheVariants as verdict
 use Rattle.aq_report.specs.Verdicts.{IsJustified}
 use Rattle.aq_report.specs.Texts.{report}
 use Rattle.aq_prog.specs.declared.program.Program.{Program}
-use Rattle.aq_thin.specs.SetTexts.{IsThinSets}
-use Rattle.aq_thin.specs.declared.term.ThinTerm.{ThinTerm}
 use Rattle.aq_elab.specs.Texts.{SaysProgram}
-use Rattle.aq_top.specs.Bodies.{are_gates}
+use Rattle.aq_set_read.specs.Texts.{SaysSets, SetFaultOf}
+use Rattle.aq_set_read.specs.declared.set_fault.SetFault.{SetFault}
+use Rattle.aq_set_read.specs.declared.sets.Sets.{Sets}
+use Rattle.aq_obligations.specs.declared.bound.ClaimFault.{ClaimFault}
+use Rattle.aq_obligations.specs.declared.bound.ClaimFault.TheVariants as bound
+use Rattle.aq_judge.specs.Bodies.{are_gates}
 use Rattle.aq_top.specs.Faults.{HasProgramFault, fault_line, fault_status}
-use Rattle.aq_top.specs.Lines.{usage_text, program_too_long, program_unbuilt, sets_too_long, sets_unbuilt, memory_line, read_fault_line}
-use Rattle.aq_top.specs.Tasks.{Task, IsTask, obligation_of}
+use Rattle.aq_top.specs.SetFaults.{set_fault_line, set_fault_status, claim_fault_line, claim_fault_status}
+use Rattle.aq_top.specs.Lines.{usage_text, program_too_long, program_unbuilt, sets_too_long, memory_line, read_fault_line}
+use Rattle.aq_top.specs.Tasks.{Task, IsTask, claims_asked, most_steps, enough_for, obligation_of}
 use Rattle.aq_top.specs.Words.{CheckWords}
 use Rattle.aq_top.specs.declared.load.Stop.{Stop}
 use Rattle.aq_top.specs.declared.load.Stop.TheVariants as stop
@@ -49,12 +53,12 @@ pub record ReadsProgram (told : Option Held) (name : List ℕ) (program : Progra
   pub fits : length bytes ≤ most_program
   pub says : SaysProgram bytes program
 
--- the sets' file was read, and is a thin set text for so many qubits
-pub record ReadsSets (told : Option Held) (name : List ℕ) (n : ℕ) (before after : List ThinTerm) : Type 0 where
+-- the sets' file was read, and says these sets
+pub record ReadsSets (told : Option Held) (name : List ℕ) (sets : Sets) : Type 0 where
   pub bytes : List ℕ
   pub held : MayHold told name bytes
   pub fits : length bytes ≤ most_sets
-  pub thin : IsThinSets bytes n before after
+  pub says : SaysSets bytes sets
 
 -- both files were read, and say this, and the program has gates alone
 pub record ReadsTask (told : Option Held) (words : CheckWords) (t : Task) : Type 0 where
@@ -80,30 +84,44 @@ pub record NotGatesAlone (told : Option Held) (name : List ℕ) : Type 0 where
   pub read : ReadsProgram told name program
   pub other : are_gates program.body ≡ false
 
--- the sets' file was read and isn't thin for so many qubits
-pub record NotThinSets (told : Option Held) (name : List ℕ) (n : ℕ) : Type 0 where
+-- the sets' file was read, and has this fault
+pub record HasSetFault (told : Option Held) (name : List ℕ) (f : SetFault) : Type 0 where
   pub bytes : List ℕ
   pub held : MayHold told name bytes
   pub fits : length bytes ≤ most_sets
-  pub not_thin : (before after : List ThinTerm) → IsThinSets bytes n before after → ⊥
+  pub fault : SetFaultOf bytes f
 
--- the program has gates alone, on some number of qubits for which this holds
-pub record BehindProgram (told : Option Held) (name : List ℕ) (P : ℕ → Type 0) : Type 0 where
+-- the program has gates alone, and this holds besides
+pub record BehindProgram (told : Option Held) (name : List ℕ) (P : Type 0) : Type 0 where
   pub program : Program
   pub read : ReadsProgram told name program
   pub gates : are_gates program.body ≡ true
-  pub then : P program.qubits
+  pub then : P
+
+-- this is the first fault of the claims that are asked of a program; for want of memory there need be none
+abbrev pub ClaimFaultOf : Program → Sets → ClaimFault → Type 0
+ClaimFaultOf p s f = (f ≡ bound.Memory → ⊥) → claims_asked p s ≡ Err f
+
+-- both files were read, and say a program that has gates alone and sets, and the claims asked have this fault
+pub record HasClaimFault (told : Option Held) (words : CheckWords) (f : ClaimFault) : Type 0 where
+  pub program : Program
+  pub read : ReadsProgram told words.program program
+  pub gates : are_gates program.body ≡ true
+  pub sets : Sets
+  pub sets_read : ReadsSets told words.sets sets
+  pub fault : ClaimFaultOf program sets f
 
 -- Why a check stops before it judges. The program comes first: the sets' file is read only behind a program that has gates
--- alone.
+-- alone, and the claims are looked up only behind sets.
 abbrev pub HasCause : Option Held → (List ℕ → Type 0) → CheckWords → Stop → Type 0
 HasCause told ReadFailed words stop.ProgramUnread = ReadFailed words.program
 HasCause told ReadFailed words stop.ProgramTooLong = IsLonger told words.program most_program
 HasCause told ReadFailed words (stop.ProgramRefused f) = HasFault told words.program f
 HasCause told ReadFailed words stop.ProgramUnbuilt = NotGatesAlone told words.program
-HasCause told ReadFailed words stop.SetsUnread = BehindProgram told words.program (λ n. ReadFailed words.sets)
-HasCause told ReadFailed words stop.SetsTooLong = BehindProgram told words.program (λ n. IsLonger told words.sets most_sets)
-HasCause told ReadFailed words stop.SetsUnbuilt = BehindProgram told words.program (λ n. NotThinSets told words.sets n)
+HasCause told ReadFailed words stop.SetsUnread = BehindProgram told words.program (ReadFailed words.sets)
+HasCause told ReadFailed words stop.SetsTooLong = BehindProgram told words.program (IsLonger told words.sets most_sets)
+HasCause told ReadFailed words (stop.SetsRefused f) = BehindProgram told words.program (HasSetFault told words.sets f)
+HasCause told ReadFailed words (stop.ClaimRefused f) = HasClaimFault told words f
 HasCause told ReadFailed words stop.Memory = Unit {0}
 
 -- why the program isn't read
@@ -114,19 +132,21 @@ ProgramCause told ReadFailed name (stop.ProgramRefused f) = HasFault told name f
 ProgramCause told ReadFailed name stop.ProgramUnbuilt = NotGatesAlone told name
 ProgramCause told ReadFailed name stop.SetsUnread = ⊥
 ProgramCause told ReadFailed name stop.SetsTooLong = ⊥
-ProgramCause told ReadFailed name stop.SetsUnbuilt = ⊥
+ProgramCause told ReadFailed name (stop.SetsRefused f) = ⊥
+ProgramCause told ReadFailed name (stop.ClaimRefused f) = ⊥
 ProgramCause told ReadFailed name stop.Memory = Unit {0}
 
 -- why the sets aren't read
-abbrev pub SetsCause : Option Held → (List ℕ → Type 0) → List ℕ → ℕ → Stop → Type 0
-SetsCause told ReadFailed name n stop.ProgramUnread = ⊥
-SetsCause told ReadFailed name n stop.ProgramTooLong = ⊥
-SetsCause told ReadFailed name n (stop.ProgramRefused f) = ⊥
-SetsCause told ReadFailed name n stop.ProgramUnbuilt = ⊥
-SetsCause told ReadFailed name n stop.SetsUnread = ReadFailed name
-SetsCause told ReadFailed name n stop.SetsTooLong = IsLonger told name most_sets
-SetsCause told ReadFailed name n stop.SetsUnbuilt = NotThinSets told name n
-SetsCause told ReadFailed name n stop.Memory = Unit {0}
+abbrev pub SetsCause : Option Held → (List ℕ → Type 0) → List ℕ → Stop → Type 0
+SetsCause told ReadFailed name stop.ProgramUnread = ⊥
+SetsCause told ReadFailed name stop.ProgramTooLong = ⊥
+SetsCause told ReadFailed name (stop.ProgramRefused f) = ⊥
+SetsCause told ReadFailed name stop.ProgramUnbuilt = ⊥
+SetsCause told ReadFailed name stop.SetsUnread = ReadFailed name
+SetsCause told ReadFailed name stop.SetsTooLong = IsLonger told name most_sets
+SetsCause told ReadFailed name (stop.SetsRefused f) = HasSetFault told name f
+SetsCause told ReadFailed name (stop.ClaimRefused f) = ⊥
+SetsCause told ReadFailed name stop.Memory = Unit {0}
 
 -- the line for it
 abbrev pub stop_text : CheckWords → Stop → List ℕ
@@ -136,7 +156,8 @@ stop_text words (stop.ProgramRefused f) = fault_line f
 stop_text words stop.ProgramUnbuilt = program_unbuilt
 stop_text words stop.SetsUnread = read_fault_line words.sets
 stop_text words stop.SetsTooLong = sets_too_long
-stop_text words stop.SetsUnbuilt = sets_unbuilt
+stop_text words (stop.SetsRefused f) = set_fault_line f
+stop_text words (stop.ClaimRefused f) = claim_fault_line f
 stop_text words stop.Memory = memory_line
 
 -- and its status
@@ -147,7 +168,8 @@ stop_status (stop.ProgramRefused f) = fault_status f
 stop_status stop.ProgramUnbuilt = status.Refused
 stop_status stop.SetsUnread = status.Read
 stop_status stop.SetsTooLong = status.Refused
-stop_status stop.SetsUnbuilt = status.Refused
+stop_status (stop.SetsRefused f) = set_fault_status f
+stop_status (stop.ClaimRefused f) = claim_fault_status f
 stop_status stop.Memory = status.Memory
 
 -- the status of a report of one verdict
@@ -165,7 +187,7 @@ pub record IsReport (told : Option Held) (words : CheckWords) (result : Status) 
   pub task : Task
   pub read : ReadsTask told words task
   pub verdict : Verdict
-  pub justified : IsJustified (obligation_of task) verdict
+  pub justified : IsJustified most_steps (enough_for task) (obligation_of task) verdict
   pub status_is : result ≡ verdict_status verdict
   pub text_is : text ≡ post_report verdict
 

@@ -1,10 +1,9 @@
 pub mod Codes
 pub mod Words
-pub mod Bodies
 pub mod Tasks
 pub mod Lines
 pub mod Faults
+pub mod SetFaults
 pub mod Ends
 pub mod Said
 pub mod Clauses
-pub mod Judging

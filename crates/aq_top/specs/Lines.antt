@@ -18,9 +18,6 @@ program_unbuilt = codes "refused: program: Unbuilt" ++ newline
 unfoldable pub sets_too_long : List ℕ
 sets_too_long = codes "refused: sets: TooLong" ++ newline
 
-unfoldable pub sets_unbuilt : List ℕ
-sets_unbuilt = codes "refused: sets: Unbuilt" ++ newline
-
 unfoldable pub memory_line : List ℕ
 memory_line = codes "out of memory" ++ newline
 

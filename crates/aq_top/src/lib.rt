@@ -2,12 +2,12 @@
 #![tactic(auto)]
 
 mod body;
-mod build;
 mod honest;
 mod judge;
 mod load;
 mod program;
 mod refuse;
+mod refuse_sets;
 mod say;
 mod status;
 mod top;

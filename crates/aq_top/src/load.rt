@@ -1,14 +1,17 @@
-ghost use Rattle.std.specs.Prelude.{◌≡◌, ◌≤◌, ◌<◌, ◌^◌, true, All, IfOk, IfErr};
+ghost use Rattle.std.specs.Prelude.{◌≡◌, ◌≤◌, true, All, IfOk, IfErr, Ok};
 ghost use Rattle.aq_prog.specs.Programs.{IsValidProgram};
-ghost use Rattle.aq_top.specs.Bodies.{are_gates};
-ghost use Rattle.aq_top.specs.Ends.{ReadFailedOf, ReadsProgram, ReadsSets, ReadsTask, HasCause, ProgramCause, SetsCause};
-ghost use Rattle.aq_top.specs.Tasks.{task_of};
+ghost use Rattle.aq_set_read.specs.Valid.{IsValidSets};
+ghost use Rattle.aq_judge.specs.Bodies.{are_gates};
+ghost use Rattle.aq_obligations.specs.Bound.{IsBoundCase};
+ghost use Rattle.aq_top.specs.Ends.{ReadFailedOf, ReadsProgram, ReadsSets, ReadsTask, HasCause, ProgramCause, SetsCause, ClaimFaultOf};
+ghost use Rattle.aq_top.specs.Tasks.{claims_asked, task_of};
 ghost use Rattle.aq_top.specs.Words.{files};
 
 use crate::body::are_gates;
 use crate::program::{ProgramFault, read_program};
+use aq_obligations::{AskedClaims, ClaimFault, ask};
 use aq_prog::Program;
-use aq_thin::{ThinFault, ThinSets, read_sets};
+use aq_set_read::{SetFault, Sets, read_sets};
 use aq_world::{ReadFault, Shelf};
 use std::alloc::Global;
 
@@ -33,8 +36,10 @@ pub enum Stop {
     SetsUnread,
     /// The sets' file is longer than `MOST_SETS`.
     SetsTooLong,
-    /// The sets' text isn't thin for the program's qubits.
-    SetsUnbuilt,
+    /// The sets' text says no sets.
+    SetsRefused(SetFault),
+    /// The claims that are asked can't be judged of the program.
+    ClaimRefused(ClaimFault),
     /// Memory ran out.
     Memory,
 }
@@ -69,26 +74,18 @@ pub(crate) fn load_program<S: Shelf>(
     }
 }
 
-/// Reads the sets for so many qubits.
-pub(crate) fn load_sets<S: Shelf>(
-    alloc: Global,
-    name: &str,
-    qubits: u32,
-    shelf: &mut S,
-) -> Result<ThinSets, Stop>
-    requires { qubits ≤ 16 }
-    ensures read { IfOk result (λ s. ReadsSets (S.holds shelf.old) name.now qubits s.before s.after) }
-    ensures before { IfOk result (λ s. All (λ t. t.index < 2 ^ qubits) s.before) }
-    ensures after { IfOk result (λ s. All (λ t. t.index < 2 ^ qubits) s.after) }
-    ensures cause { IfErr result (SetsCause (S.holds shelf.old) (ReadFailedOf (S.faults shelf.old) (S.faults shelf.new) (S.blame shelf.new)) name.now qubits) }
+/// Reads the sets.
+pub(crate) fn load_sets<S: Shelf>(alloc: Global, name: &str, shelf: &mut S) -> Result<Sets, Stop>
+    ensures read { IfOk result (ReadsSets (S.holds shelf.old) name.now) }
+    ensures valid { IfOk result IsValidSets }
+    ensures cause { IfErr result (SetsCause (S.holds shelf.old) (ReadFailedOf (S.faults shelf.old) (S.faults shelf.new) (S.blame shelf.new)) name.now) }
     ensures later { S.faults shelf.old ≤ S.faults shelf.new }
     ensures held { S.holds shelf.new ≡ S.holds shelf.old }
 {
     match shelf.read(name, MOST_SETS) {
-        Ok(bytes) => match read_sets(alloc, bytes.as_slice(), qubits) {
+        Ok(bytes) => match read_sets(alloc, bytes.as_slice()) {
             Ok(sets) => Ok(sets),
-            Err(ThinFault::NotThin) => Err(Stop::SetsUnbuilt),
-            Err(ThinFault::Memory) => Err(Stop::Memory),
+            Err(fault) => Err(Stop::SetsRefused(fault)),
         },
         Err(ReadFault::Failed) => Err(Stop::SetsUnread),
         Err(ReadFault::TooLong(_)) => Err(Stop::SetsTooLong),
@@ -96,31 +93,52 @@ pub(crate) fn load_sets<S: Shelf>(
     }
 }
 
-/// A program and sets that were read for each other.
+/// Looks up the claims that are asked of the program.
+fn ask_claims(alloc: Global, program: &Program, sets: &Sets) -> Result<AskedClaims, ClaimFault>
+    requires program { IsValidProgram program.now }
+    requires sets { IsValidSets sets.now }
+    ensures asked { IfOk result (λ a. claims_asked program.now sets.now ≡ Ok a) }
+    ensures before { IfOk result (λ a. All (IsBoundCase program.now sets.now) a.before) }
+    ensures after { IfOk result (λ a. All (IsBoundCase program.now sets.now) a.after) }
+    ensures fault { IfErr result (ClaimFaultOf program.now sets.now) }
+{
+    ask(alloc, program, sets, b"pre", b"post")
+}
+
+/// A program, sets, and the claims that are asked of it.
 #[derive(Debug, Drop)]
 pub(crate) struct Loaded {
     pub(crate) program: Program,
-    pub(crate) sets: ThinSets,
+    pub(crate) sets: Sets,
+    pub(crate) claims: AskedClaims,
 }
 
-/// Reads the program and then, behind a program that has gates alone, the sets.
+/// Reads the program, then the sets behind a program that has gates alone, and looks up the claims.
 pub(crate) fn load<S: Shelf>(
     alloc: Global,
     program: &str,
     sets: &str,
     shelf: &mut S,
 ) -> Result<Loaded, Stop>
-    ensures read { IfOk result (λ l. ReadsTask (S.holds shelf.old) (files program.now sets.now) (task_of l.program l.sets)) }
+    ensures read { IfOk result (λ l. ReadsTask (S.holds shelf.old) (files program.now sets.now) (task_of l.program l.sets l.claims)) }
     ensures gates { IfOk result (λ l. are_gates l.program.body ≡ true) }
-    ensures valid { IfOk result (λ l. IsValidProgram l.program) }
-    ensures before { IfOk result (λ l. All (λ t. t.index < 2 ^ l.program.qubits) l.sets.before) }
-    ensures after { IfOk result (λ l. All (λ t. t.index < 2 ^ l.program.qubits) l.sets.after) }
+    ensures program { IfOk result (λ l. IsValidProgram l.program) }
+    ensures sets { IfOk result (λ l. IsValidSets l.sets) }
+    ensures before { IfOk result (λ l. All (IsBoundCase l.program l.sets) l.claims.before) }
+    ensures after { IfOk result (λ l. All (IsBoundCase l.program l.sets) l.claims.after) }
     ensures cause { IfErr result (HasCause (S.holds shelf.old) (ReadFailedOf (S.faults shelf.old) (S.faults shelf.new) (S.blame shelf.new)) (files program.now sets.now)) }
     ensures held { S.holds shelf.new ≡ S.holds shelf.old }
 {
     match load_program(alloc, program, shelf) {
-        Ok(program) => match load_sets(alloc, sets, program.qubits, shelf) {
-            Ok(sets) => Ok(Loaded { program, sets }),
+        Ok(program) => match load_sets(alloc, sets, shelf) {
+            Ok(sets) => match ask_claims(alloc, &program, &sets) {
+                Ok(claims) => Ok(Loaded {
+                    program,
+                    sets,
+                    claims,
+                }),
+                Err(fault) => Err(Stop::ClaimRefused(fault)),
+            },
             Err(stop) => Err(stop),
         },
         Err(stop) => Err(stop),

@@ -1,7 +1,7 @@
 //! The lines of a program's faults.
 ghost use Rattle.std.specs.Prelude.{◌≡◌, ◌++◌};
 ghost use Rattle.aq_world.specs.Prints.{Prints};
-ghost use Rattle.aq_top.specs.Faults.{program_line, lex_line, parse_line, elab_line, fault_line, is_lex_memory, is_parse_memory, is_elab_memory, is_memory, fault_status};
+ghost use Rattle.aq_top.specs.Faults.{program_line, lex_line, parse_line, elab_line, fault_line, is_lex_memory, is_parse_memory, is_elab_memory, is_memory, refused_or_memory, fault_status};
 ghost use Rattle.aq_top.specs.Lines.{memory_line};
 
 use crate::program::ProgramFault;
@@ -131,13 +131,20 @@ fn is_memory(fault: &ProgramFault) -> bool
     }
 }
 
-/// The status that goes with a fault's line.
-pub(crate) fn fault_status(fault: &ProgramFault) -> Status
-    ensures { result ≡ fault_status fault.now }
+/// The status of a fault: refused, or memory where that is its cause.
+pub(crate) fn refused_or_memory(memory: bool) -> Status
+    ensures { result ≡ refused_or_memory memory }
 {
-    if is_memory(fault) {
+    if memory {
         Status::Memory
     } else {
         Status::Refused
     }
+}
+
+/// The status that goes with a fault's line.
+pub(crate) fn fault_status(fault: &ProgramFault) -> Status
+    ensures { result ≡ fault_status fault.now }
+{
+    refused_or_memory(is_memory(fault))
 }

@@ -5,10 +5,13 @@ ghost use Rattle.aq_world.specs.Prints.{Prints};
 ghost use Rattle.aq_top.specs.Said.{Said, status_of};
 ghost use Rattle.aq_top.specs.Words.{files};
 ghost use Rattle.aq_top.specs.Ends.{stop_text, stop_status, post_report, verdict_status};
-ghost use Rattle.aq_top.specs.Lines.{usage_text, program_too_long, program_unbuilt, sets_too_long, sets_unbuilt, read_fault_line};
+ghost use Rattle.aq_top.specs.Lines.{usage_text, program_too_long, program_unbuilt, sets_too_long, read_fault_line};
 
 use crate::load::Stop;
 use crate::refuse::{fault_status, print_memory, print_program_fault};
+use crate::refuse_sets::{
+    claim_fault_status, print_claim_fault, print_set_fault, set_fault_status,
+};
 use crate::status::Status;
 use aq_obligations::Kind;
 use aq_report::{Verdict, print_summary, print_verdict};
@@ -83,13 +86,6 @@ fn print_sets_too_long<K: Sink>(out: &mut K) -> Result<(), SinkFault>
     put_text(out, b"refused: sets: TooLong\n")
 }
 
-#[tactic(auto, unfolding(crate::specs::Lines::sets_unbuilt))]
-fn print_sets_unbuilt<K: Sink>(out: &mut K) -> Result<(), SinkFault>
-    ensures { Prints (K.told out.old) (K.told out.new) (K.faults out.old) (K.faults out.new) result sets_unbuilt }
-{
-    put_text(out, b"refused: sets: Unbuilt\n")
-}
-
 fn print_stop<K: Sink>(out: &mut K, program: &str, sets: &str, stop: &Stop) -> Result<(), SinkFault>
     ensures { Prints (K.told out.old) (K.told out.new) (K.faults out.old) (K.faults out.new) result (stop_text (files program.now sets.now) stop.now) }
 {
@@ -100,7 +96,8 @@ fn print_stop<K: Sink>(out: &mut K, program: &str, sets: &str, stop: &Stop) -> R
         Stop::ProgramUnbuilt => print_program_unbuilt(out),
         Stop::SetsUnread => print_read_fault(out, sets),
         Stop::SetsTooLong => print_sets_too_long(out),
-        Stop::SetsUnbuilt => print_sets_unbuilt(out),
+        Stop::SetsRefused(fault) => print_set_fault(out, fault),
+        Stop::ClaimRefused(fault) => print_claim_fault(out, fault),
         Stop::Memory => print_memory(out),
     }
 }
@@ -111,8 +108,9 @@ fn stop_status(stop: &Stop) -> Status
     match stop {
         Stop::ProgramUnread | Stop::SetsUnread => Status::Read,
         Stop::ProgramRefused(fault) => fault_status(fault),
-        Stop::ProgramTooLong | Stop::ProgramUnbuilt | Stop::SetsTooLong | Stop::SetsUnbuilt =>
-            Status::Refused,
+        Stop::SetsRefused(fault) => set_fault_status(fault),
+        Stop::ClaimRefused(fault) => claim_fault_status(fault),
+        Stop::ProgramTooLong | Stop::ProgramUnbuilt | Stop::SetsTooLong => Status::Refused,
         Stop::Memory => Status::Memory,
     }
 }

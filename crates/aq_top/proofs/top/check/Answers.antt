@@ -1,9 +1,5 @@
 use Rattle.aq_top.proofs.EndsLemmas.{report_ends, stop_ends}
-use Rattle.aq_top.proofs.StmtLemmas.{program_gates_valid}
 use Rattle.aq_top.proofs.top.check.Goals as goal
-
-pub judge-verdict-requires-clause-valid : goal.judge-verdict-requires-clause-valid
-judge-verdict-requires-clause-valid g c = program_gates_valid c.in-Ok.loaded.program c.in-Ok.ensures.valid
 
 pub returns-in-Ok-clause-ends : goal.returns-in-Ok-clause-ends
 returns-in-Ok-clause-ends g c =

@@ -1,4 +1,0 @@
-pub mod Pieces
-pub mod SetTexts
-pub mod Reading
-pub mod Laws
