@@ -1,0 +1,4 @@
+pub mod Bodies
+pub mod Counting
+pub mod Finding
+pub mod Owed
