@@ -1,5 +1,5 @@
 -- Programs that only have gates.
-use Rattle.std.proofs.Common.{◌≡◌, ℕ, zero, suc, ◌<◌, Bool, true, false, not, List, [], ◌∷◌, ◌++◌, map, filter, All, Any, Contains, length, replicate, slice_index_or, Some, refl, ap, sym, ◌∙◌, subst, arith, inl, inr, append-nil, ap₂}
+use Rattle.std.proofs.Common.{◌≡◌, ℕ, zero, suc, ◌<◌, Bool, true, false, not, List, [], ◌∷◌, ◌++◌, map, filter, All, Any, Contains, slice_index_or, refl, ap, sym, ◌∙◌, subst, arith, inl, inr, append-nil}
 use Rattle.std.specs.List.{list_all, list_any, flat_map}
 use Rattle.aq_ring.specs.Fractions.{Amplitude}
 use Rattle.aq_ring.specs.Amplitudes.{FitsAmplitudeProduct}
@@ -12,17 +12,13 @@ use Rattle.aq_prog.specs.Laws.{run_of_gates}
 use Rattle.aq_prog.specs.Runs.{State, Run, How, Played, played_gates}
 use Rattle.aq_prog.specs.declared.gate.Gate.{Gate}
 use Rattle.aq_prog.specs.declared.stmt.Stmt.TheVariants as stmt
-use Rattle.aq_prog.specs.declared.stmt.Stmt.TheOpen.{Stmt-F}
-use Rattle.aq_prog.specs.declared.stmt.Stmt.TheFolds.{fold-roll-Stmt}
-use Rattle.aq_prog.specs.declared.stmt.Stmt.TheViews.{roll-Stmt}
-use denote.Hole.Carrier.{roll}
 use Rattle.aq_prog.proofs.RunLaws.{gates_alone}
-use Rattle.aq_prog.proofs.VectorLaws.{apply_gate-proportional}
 use Rattle.aq_obligations.specs.Claims.{ClaimCase, CaseHolds, Holds}
 use Rattle.aq_obligations.specs.Obligations.{Obligation, IsListed, IsStart, run_of, IsWhole, IsTrueOf, IsCounterexample}
 use Rattle.aq_obligations.specs.Wide.{IsWide}
-use Rattle.aq_obligations.specs.Worlds.{World, Partial, Spread, in_worlds, with_vectors, spread, spread_step, worlds, is_nought, IsKept, IsRefutation, split, mentioned, mentions, filled}
+use Rattle.aq_obligations.specs.Worlds.{World, Partial, Spread, in_worlds, spread, worlds, is_nought, IsKept, IsRefutation, split, mentioned, mentions, filled}
 use Rattle.aq_obligations.specs.Correct.{run_from, PassedHolds, IsCorrect, zeros}
+use Rattle.aq_obligations.proofs.ZeroBits.{all_zeros, zero_at, zeros_sized, nothing, known, filled_known, spread-gate, gates-proportional}
 use Rattle.aq_obligations.specs.GatesAlone.{one_case, gates_program, gates_obligation, gates_shown, GatesAloneLaws}
 
 -- one vector is listed alone
@@ -51,23 +47,6 @@ holds_one v w bits p = any_one (λ c. CaseHolds bits w c) (record { vectors = v 
 
 one_holds : (v w : List Amplitude) (bits : List Bool) → Holds (one_case v) bits w → Proportional w v
 one_holds v w bits h = one_any (λ u. Proportional w u) v (one_any (λ c. CaseHolds bits w c) (record { vectors = v ∷ []; when = [] }) h).1
-
--- bits of which each is 0
-all_zeros : (m : ℕ) (bits : List Bool) → length bits ≡ m → All (λ b. b ≡ false) bits → bits ≡ zeros m
-all_zeros zero [] e z = refl
-all_zeros (suc m) [] e z = absurd (omega (arith, e))
-all_zeros zero (b ∷ bs) e z = absurd (omega (arith, e))
-all_zeros (suc m) (b ∷ bs) e z =
-    ap₂ (λ (x : Bool) (xs : List Bool). x ∷ xs) (z 0 false (omega arith)) (all_zeros m bs (omega (arith, e)) (λ k d h. z (suc k) d (omega (arith, h))))
-
-zero_at : (m k : ℕ) (d : Bool) → k < length (zeros m) → slice_index_or (zeros m) k d ≡ false
-zero_at zero k d h = absurd (omega (arith, h))
-zero_at (suc m) zero d h = refl
-zero_at (suc m) (suc k) d h = zero_at m k d (omega (arith, h))
-
-zeros_sized : (m : ℕ) → length (zeros m) ≡ m
-zeros_sized zero = refl
-zeros_sized (suc m) = ap suc (zeros_sized m)
 
 -- what a start of the one obligation is
 starts : (n m : ℕ) (gates : List Gate) (before after : List Amplitude) (bits : List Bool) (v : List Amplitude) → IsStart (gates_obligation n m gates before after) bits v → (bits ≡ zeros m) × (before ≡ v)
@@ -103,14 +82,6 @@ true_if n m gates before after goes = λ bits v outcomes start whole nonzero.
     (sym (end_bits_are n m gates before after v bits outcomes ∙ s.0))
     (subst (λ (w : List Amplitude). Holds (one_case after) (zeros m) w) (sym end) (holds_one after (apply_gates n gates before) (zeros m) p))
 
--- bits that are known to be 0
-abbrev known : ℕ → Partial
-known m = replicate m (Some false)
-
-filled_known : (m : ℕ) → filled (known m) ≡ zeros m
-filled_known zero = refl
-filled_known (suc m) = ap (λ (bs : List Bool). false ∷ bs) (filled_known m)
-
 -- the one world at the end
 abbrev last_world : ℕ → ℕ → List Gate → List Amplitude → World
 last_world n m gates before = record {
@@ -120,10 +91,6 @@ last_world n m gates before = record {
   outcomes = [];
   vectors = apply_gates n gates before ∷ [];
 }
-
-spread-gate : (n : ℕ) (g : Gate) (w : World) → spread n (stmt.Gate g) w ≡ with_vectors (apply_gate n g) w ∷ []
-unfolding roll-Stmt roll
-spread-gate n g w = ap (λ (m : Spread). m w) (fold-roll-Stmt Spread (spread_step n) (Stmt-F.Gate g))
 
 gates_spread : (n : ℕ) (gates : List Gate) (before : List Amplitude) (c : ClaimCase) (bits : Partial) →
     in_worlds (map (spread n) (map stmt.Gate gates)) (record { case = c; start = bits; bits = bits; outcomes = []; vectors = before ∷ [] })
@@ -160,9 +127,6 @@ worlds_are n m gates before after nonzero =
         by_test : (b : Bool) → is_zero_vector v ≡ b → list_all is_zero_vector (v ∷ []) ≡ false
         by_test true e = absurd (h (is_zero_vector_true v e))
         by_test false e = rw e refl
-
-nothing : {A : Type 0} (P : A → Type 0) → All P []
-nothing P = λ k d h. absurd (omega (arith, h))
 
 refuted : (n m : ℕ) (gates : List Gate) (before after : List Amplitude) → (IsZeroVector (apply_gates n gates before) → ⊥)
     → (Proportional (apply_gates n gates before) after → ⊥) → IsRefutation (gates_obligation n m gates before after) (gates_shown n m gates before)
@@ -228,10 +192,6 @@ wide_product n m gates before after left right in_end in_goal unfit = inr (inl (
   of_vector = in_goal;
   wide = unfit;
 }))
-
-gates-proportional : (n : ℕ) (gates : List Gate) (u v : List Amplitude) → Proportional u v → Proportional (apply_gates n gates u) (apply_gates n gates v)
-gates-proportional n [] u v p = p
-gates-proportional n (g ∷ gs) u v p = gates-proportional n gs (apply_gate n g u) (apply_gate n g v) (apply_gate-proportional n g u v p)
 
 correct : (n m : ℕ) (gates : List Gate) (before after : List Amplitude) → IsTrueOf (gates_obligation n m gates before after) → IsCorrect (gates_program n m gates before after)
 correct n m gates before after holds = λ v outcomes turns nonzero pre.

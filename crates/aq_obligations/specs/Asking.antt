@@ -1,5 +1,5 @@
 -- What a program without loops and claims inside owes, as its set file asks.
-use Rattle.std.specs.Prelude.{ℕ, true, List, [], ◌++◌, map, None}
+use Rattle.std.specs.Prelude.{true, List, [], ◌++◌, map, None}
 use Rattle.std.specs.List.{flat_map}
 use Rattle.aq_ring.specs.Fractions.{Amplitude}
 use Rattle.aq_prog.specs.declared.program.Program.{Program}

@@ -1,7 +1,8 @@
 -- Claims of a set file, with the names of their bits looked up in a program.
-use Rattle.std.specs.Prelude.{◌≡◌, ℕ, ◌+◌, ◌==◌, Bool, not, ◌&&◌, List, [], ◌∷◌, Option, Some, None, Result, Ok, Err, nat_lt, if◌then◌else◌}
+use Rattle.std.specs.Prelude.{◌≡◌, ℕ, ◌+◌, ◌<◌, ◌≤◌, ◌==◌, Bool, ◌&&◌, List, [], ◌∷◌, All, length, Option, Some, None, Result, Ok, Err, nat_lt, if◌then◌else◌}
 use Rattle.std.specs.List.{find}
 use Rattle.std.specs.Str.{bytes_eq}
+use Rattle.aq_prog.specs.Programs.{most_bits}
 use Rattle.aq_prog.specs.declared.program.BitRegister.{BitRegister}
 use Rattle.aq_prog.specs.declared.program.Program.{Program}
 use Rattle.aq_prog.specs.declared.stmt.Guard.{Guard}
@@ -10,6 +11,7 @@ use Rattle.aq_set_read.specs.declared.sets.Cond.{Cond}
 use Rattle.aq_set_read.specs.declared.sets.Case.{Case}
 use Rattle.aq_set_read.specs.declared.sets.NamedClaim.{NamedClaim}
 use Rattle.aq_set_read.specs.declared.sets.Sets.{Sets}
+use Rattle.aq_obligations.specs.declared.bound.AskedClaims.{AskedClaims}
 use Rattle.aq_obligations.specs.declared.bound.BoundCase.{BoundCase}
 use Rattle.aq_obligations.specs.declared.bound.ClaimFault.{ClaimFault}
 use Rattle.aq_obligations.specs.declared.bound.ClaimFault.TheVariants as faults
@@ -41,10 +43,14 @@ bit_in index None = None
 bit_in index (Some r) = bit_of index r
 
 abbrev pub register_named : List BitRegister → List ℕ → Option BitRegister
-register_named registers name = find (λ r. bytes_eq name r.name) registers
+register_named registers name = find (λ r. bytes_eq r.name name) registers
 
 abbrev pub guard_on : Bool → ℕ → Guard
 guard_on value bit = record { bit = bit; value = value }
+
+-- the registers end within the largest number of bits
+abbrev pub AreShort : List BitRegister → Type 0
+AreShort registers = All (λ r. r.first + r.size ≤ most_bits) registers
 
 -- a condition of the claim with this name
 abbrev pub bound_cond : Program → List ℕ → Cond → Checked Guard
@@ -62,24 +68,36 @@ bound_claim p s claim = all_checked (bound_case p s claim.name) claim.cases
 
 -- the claim with this name
 abbrev pub claim_named : Sets → List ℕ → Checked NamedClaim
-claim_named s name = or_refuse (faults.UnknownClaim name) (find (λ c. bytes_eq name c.name) s.claims)
+claim_named s name = or_refuse (faults.UnknownClaim name) (find (λ c. bytes_eq c.name name) s.claims)
 
--- what is asked of a program: its precondition and its postcondition
-pub record Asked : Type 0 where
-  pub before : List BoundCase
-  pub after : List BoundCase
+-- what is asked of a program: the cases of its precondition and of its postcondition
+abbrev pub Asked : Type 0
+Asked = AskedClaims
+
+-- the cases of two claims
+abbrev pub bound_claims : Program → Sets → NamedClaim → NamedClaim → Checked Asked
+bound_claims p s first second =
+    bound_claim p s first >>= λ before.
+    bound_claim p s second >>= λ after.
+    Ok (record { before = before; after = after })
 
 -- Both claims are looked up before the cases of either are.
 unfoldable pub asked : Program → Sets → List ℕ → List ℕ → Checked Asked
 asked p s pre post =
     claim_named s pre >>= λ first.
     claim_named s post >>= λ second.
-    bound_claim p s first >>= λ before.
-    bound_claim p s second >>= λ after.
-    Ok (record { before = before; after = after })
+    bound_claims p s first second
 
 -- ---- what a function of the program answers: the same, unless memory ran out
 
 abbrev pub Gives : {A B : Type 0} → (B → A) → Result B ClaimFault → Checked A → Type 0
 Gives view (Ok x) wanted = wanted ≡ Ok (view x)
 Gives view (Err e) wanted = (e ≡ faults.Memory → ⊥) → wanted ≡ Err e
+
+-- ---- what is known of a case that was looked up
+
+-- its expression is there and is on the program's qubits, and its conditions are on bits of the program
+pub record IsBoundCase (p : Program) (s : Sets) (c : BoundCase) : Type 0 where
+  pub there : c.set < length s.exprs
+  pub qubits : (size_of s.exprs c.set).qubits ≡ p.qubits
+  pub bits : All (λ g. g.bit < p.bits) c.when

@@ -1,5 +1,5 @@
 -- Programs whose statements are gates: what their one obligation comes to. Their bits stay 0.
-use Rattle.std.specs.Prelude.{◌≡◌, ℕ, true, List, [], ◌∷◌, ◌++◌, map, filter, All, Any, Contains, None, ◌⊎◌, Bool}
+use Rattle.std.specs.Prelude.{◌≡◌, true, List, [], ◌∷◌, ◌++◌, map, filter, All, Any, Contains, None, ◌⊎◌, Bool}
 use Rattle.std.specs.List.{flat_map}
 use Rattle.aq_ring.specs.Fractions.{Amplitude}
 use Rattle.aq_ring.specs.Amplitudes.{FitsAmplitudeProduct}

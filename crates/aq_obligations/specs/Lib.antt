@@ -8,3 +8,4 @@ pub mod Bound
 pub mod Asking
 pub mod Enough
 pub mod GatesOnly
+pub mod Qubits

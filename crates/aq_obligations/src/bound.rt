@@ -1,12 +1,20 @@
 use aq_lex::Text;
 use aq_prog::Guard;
 use sqlite_items::Items;
+use std::alloc::AllocError;
 
 /// A case of a claim, with its bits looked up: the position of its expression, and the conditions under which it counts.
 #[derive(Debug, Drop)]
 pub struct BoundCase {
     pub set: u32,
     pub when: Items<Guard>,
+}
+
+/// The two claims that are asked of a program: the cases of its precondition and those of its postcondition.
+#[derive(Debug, Drop)]
+pub struct AskedClaims {
+    pub before: Items<BoundCase>,
+    pub after: Items<BoundCase>,
 }
 
 /// Why a claim can't be judged of a program.
@@ -20,4 +28,15 @@ pub enum ClaimFault {
     BitUnknown { name: Text, bit: Text },
     /// Memory ran out.
     Memory,
+}
+
+impl From<AllocError> for ClaimFault {
+    ghost use Rattle.std.specs.Prelude.{◌≡◌};
+    ghost use Rattle.aq_obligations.specs.declared.bound.ClaimFault.TheVariants.{Memory};
+
+    ghost from_gives = { λ _ e. e ≡ Memory };
+
+    fn from(_error: AllocError) -> ClaimFault {
+        ClaimFault::Memory
+    }
 }

@@ -1,0 +1,233 @@
+//! The claims that are asked of a program, with the names of their bits looked up.
+ghost use Rattle.std.specs.Prelude.{◌≡◌, ◌≤◌, ◌+◌, All, IfOk, option_copied};
+ghost use Rattle.std.specs.List.{find};
+ghost use Rattle.std.specs.Str.{bytes_eq};
+ghost use Rattle.aq_prog.specs.Programs.{IsValidProgram, most_bits};
+ghost use Rattle.aq_set_read.specs.Valid.{IsValidSets};
+ghost use Rattle.aq_obligations.specs.Qubits.{AreQubits};
+ghost use Rattle.aq_obligations.specs.Bound.{Gives, bit_of, bit_in, register_named, bound_cond, all_checked, bound_case, bound_claim, claim_named, bound_claims, asked, AreShort, IsBoundCase};
+ghost use Rattle.aq_obligations.specs.declared.bound.ClaimFault.TheVariants as faults;
+
+use crate::bound::{AskedClaims, BoundCase, ClaimFault};
+use crate::qubits::{at_position, qubits_of_all};
+use aq_lex::Text;
+use aq_prog::{BitRegister, Guard, Program};
+use aq_set_read::{Case, Cond, NamedClaim, Sets};
+use sqlite_items::Items;
+use std::alloc::{AllocError, Global};
+
+/// The bit of a register, or none where the index is no bit of it, or where it has several and there is no index.
+fn bit_of(index: Option<u128>, register: &BitRegister) -> Option<u32>
+    requires { register.now.first + register.now.size ≤ most_bits }
+    ensures { result ≡ bit_of index register.now }
+{
+    match index {
+        None => {
+            if register.size == 1 {
+                Some(register.first)
+            } else {
+                None
+            }
+        }
+        Some(i) => {
+            if register.indexed && i < u128::from(register.size) {
+                Some(register.first + i as u32)
+            } else {
+                None
+            }
+        }
+    }
+}
+
+/// The bit of the register with this name.
+fn bit_named(registers: &[BitRegister], name: &[u8], index: Option<u128>) -> Option<u32>
+    requires { AreShort registers.now }
+    ensures { result ≡ bit_in index (register_named registers.now name.now) }
+{
+    for register in registers {
+        if register.name.is(name) {
+            return bit_of(index, register);
+        }
+    }
+    None
+}
+
+fn bit_unknown(alloc: Global, name: &[u8], bit: &[u8]) -> Result<ClaimFault, AllocError>
+    ensures { IfOk result (λ f. f ≡ faults.BitUnknown name.now bit.now) }
+{
+    let name = Text::from_slice(alloc, name)?;
+    let bit = Text::from_slice(alloc, bit)?;
+    Ok(ClaimFault::BitUnknown { name, bit })
+}
+
+fn qubits_differ(alloc: Global, name: &[u8], has: u32) -> Result<ClaimFault, AllocError>
+    ensures { IfOk result (λ f. f ≡ faults.QubitsDiffer name.now has) }
+{
+    let name = Text::from_slice(alloc, name)?;
+    Ok(ClaimFault::QubitsDiffer { name, has })
+}
+
+fn unknown_claim(alloc: Global, name: &[u8]) -> Result<ClaimFault, AllocError>
+    ensures { IfOk result (λ f. f ≡ faults.UnknownClaim name.now) }
+{
+    let name = Text::from_slice(alloc, name)?;
+    Ok(ClaimFault::UnknownClaim { name })
+}
+
+/// A condition of the claim with this name, with its bit looked up. BitUnknown: the program has no such bit.
+fn guard_of(alloc: Global, program: &Program, name: &[u8], cond: &Cond) -> Result<Guard, ClaimFault>
+    requires { AreShort program.now.registers }
+    ensures { Gives (λ g. g) result (bound_cond program.now name.now cond.now) }
+{
+    match bit_named(
+        program.registers.as_slice(),
+        cond.bit.as_slice(),
+        cond.index,
+    ) {
+        Some(bit) => Ok(Guard {
+            bit,
+            value: cond.value,
+        }),
+        None => Err(bit_unknown(alloc, name, cond.bit.as_slice())?),
+    }
+}
+
+fn guards_of(
+    alloc: Global,
+    program: &Program,
+    name: &[u8],
+    conds: &[Cond],
+) -> Result<Items<Guard>, ClaimFault>
+    requires { AreShort program.now.registers }
+    ensures { Gives (λ gs. gs) result (all_checked (bound_cond program.now name.now) conds.now) }
+{
+    let mut guards = Items::new(alloc);
+    for cond in conds {
+        let guard = guard_of(alloc, program, name, cond)?;
+        guards.push(guard)?;
+    }
+    Ok(guards)
+}
+
+/// A case of the claim with this name, from the numbers of qubits of all expressions. QubitsDiffer: it is on another number
+/// of qubits than the program. Then BitUnknown, condition by condition.
+#[tactic(auto, unfolding(crate::specs::Bound::bound_case))]
+fn case_of(
+    alloc: Global,
+    program: &Program,
+    sets: &Sets,
+    qubits: &[u32],
+    name: &[u8],
+    case: &Case,
+) -> Result<BoundCase, ClaimFault>
+    requires short { AreShort program.now.registers }
+    requires qubits { AreQubits sets.now.exprs qubits.now }
+    ensures { Gives (λ c. c) result (bound_case program.now sets.now name.now case.now) }
+{
+    let has = at_position(qubits, case.set);
+    if has != program.qubits {
+        return Err(qubits_differ(alloc, name, has)?);
+    }
+    let when = guards_of(alloc, program, name, case.when.as_slice())?;
+    Ok(BoundCase {
+        set: case.set,
+        when,
+    })
+}
+
+fn cases_of(
+    alloc: Global,
+    program: &Program,
+    sets: &Sets,
+    qubits: &[u32],
+    claim: &NamedClaim,
+) -> Result<Items<BoundCase>, ClaimFault>
+    requires short { AreShort program.now.registers }
+    requires qubits { AreQubits sets.now.exprs qubits.now }
+    ensures { Gives (λ cs. cs) result (bound_claim program.now sets.now claim.now) }
+{
+    let mut cases = Items::new(alloc);
+    for case in claim.cases.as_slice() {
+        let bound = case_of(alloc, program, sets, qubits, claim.name.as_slice(), case)?;
+        cases.push(bound)?;
+    }
+    Ok(cases)
+}
+
+fn find_claim<'a>(claims: &'a [NamedClaim], name: &[u8]) -> Option<&'a NamedClaim>
+    ensures { option_copied result ≡ find (λ c. bytes_eq c.name name.now) claims.now }
+{
+    for claim in claims {
+        if claim.name.is(name) {
+            return Some(claim);
+        }
+    }
+    None
+}
+
+/// The claim with this name. UnknownClaim: there is none.
+fn claim_named<'a>(alloc: Global, sets: &'a Sets, name: &[u8]) -> Result<&'a NamedClaim, ClaimFault>
+    ensures { Gives (λ c. c.now) result (claim_named sets.now name.now) }
+{
+    match find_claim(sets.claims.as_slice(), name) {
+        Some(claim) => Ok(claim),
+        None => Err(unknown_claim(alloc, name)?),
+    }
+}
+
+fn bind(
+    alloc: Global,
+    program: &Program,
+    sets: &Sets,
+    first: &NamedClaim,
+    second: &NamedClaim,
+) -> Result<AskedClaims, ClaimFault>
+    requires short { AreShort program.now.registers }
+    requires sets { IsValidSets sets.now }
+    ensures { Gives (λ a. a) result (bound_claims program.now sets.now first.now second.now) }
+{
+    let qubits = qubits_of_all(alloc, sets)?;
+    let before = cases_of(alloc, program, sets, qubits.as_slice(), first)?;
+    let after = cases_of(alloc, program, sets, qubits.as_slice(), second)?;
+    Ok(AskedClaims { before, after })
+}
+
+/// The two claims, looked up, as the definitions say.
+#[tactic(auto, unfolding(crate::specs::Bound::asked))]
+fn look_up(
+    alloc: Global,
+    program: &Program,
+    sets: &Sets,
+    pre: &[u8],
+    post: &[u8],
+) -> Result<AskedClaims, ClaimFault>
+    requires short { AreShort program.now.registers }
+    requires sets { IsValidSets sets.now }
+    ensures { Gives (λ a. a) result (asked program.now sets.now pre.now post.now) }
+{
+    let first = claim_named(alloc, sets, pre)?;
+    let second = claim_named(alloc, sets, post)?;
+    bind(alloc, program, sets, first, second)
+}
+
+/// The cases of the claims named `pre` and `post`, with their bits looked up in the program. Each is on the program's qubits,
+/// and asks for bits of the program. Errors, the first that applies:
+/// - UnknownClaim: no claim is named `pre`, or else none is named `post`.
+/// - QubitsDiffer, BitUnknown: claim by claim and case by case, a case is on another number of qubits than the program, or,
+///   if not, one of its conditions names no bit of it.
+/// - Memory: memory ran out.
+pub fn ask(
+    alloc: Global,
+    program: &Program,
+    sets: &Sets,
+    pre: &[u8],
+    post: &[u8],
+) -> Result<AskedClaims, ClaimFault>
+    requires program { IsValidProgram program.now }
+    requires sets { IsValidSets sets.now }
+    ensures asked { Gives (λ a. a) result (asked program.now sets.now pre.now post.now) }
+    ensures before { IfOk result (λ a. All (IsBoundCase program.now sets.now) a.before) }
+    ensures after { IfOk result (λ a. All (IsBoundCase program.now sets.now) a.after) }
+{
+    look_up(alloc, program, sets, pre, post)
+}
