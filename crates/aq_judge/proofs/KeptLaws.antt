@@ -8,8 +8,8 @@ use Rattle.aq_prog.specs.declared.gate.Gate.{Gate}
 use Rattle.aq_plain.specs.Vectors.{StateVector}
 use Rattle.aq_obligations.specs.Correct.{zeros}
 use Rattle.aq_report.specs.declared.verdict.Refutation.{Refutation}
-use Rattle.aq_judge.specs.declared.judge.End.{End}
-use Rattle.aq_judge.specs.declared.judge.End.TheVariants as end
+use Rattle.aq_judge.specs.declared.runs.End.{End}
+use Rattle.aq_judge.specs.declared.runs.End.TheVariants as end
 use Rattle.aq_judge.specs.Finding.{amps_of, IsKept, IsLost, EndsAs, AreKept, IsLostBy}
 use Rattle.aq_judge.proofs.FindLaws.{amps_more, all_one}
 

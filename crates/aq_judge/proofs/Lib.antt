@@ -5,3 +5,5 @@ pub mod StmtLaws
 pub mod GuardLaws
 pub mod StepLaws
 pub mod KeptLaws
+pub mod MetLaws
+pub mod VerdictLaws

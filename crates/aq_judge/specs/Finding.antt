@@ -16,8 +16,8 @@ use Rattle.aq_report.specs.declared.verdict.Verdict.TheVariants as verdict
 use Rattle.aq_report.specs.declared.verdict.Why.TheVariants as why
 use Rattle.aq_judge.specs.declared.compare.Found.{Found}
 use Rattle.aq_judge.specs.declared.compare.Found.TheVariants as found
-use Rattle.aq_judge.specs.declared.judge.End.{End}
-use Rattle.aq_judge.specs.declared.judge.End.TheVariants as end
+use Rattle.aq_judge.specs.declared.runs.End.{End}
+use Rattle.aq_judge.specs.declared.runs.End.TheVariants as end
 use Rattle.aq_judge.specs.declared.stop.Stop.{Stop}
 use Rattle.aq_judge.specs.declared.stop.Stop.TheVariants as stop
 

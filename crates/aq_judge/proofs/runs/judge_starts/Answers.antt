@@ -1,11 +1,11 @@
 use Rattle.std.proofs.Common.{◌≡◌, List, sym, ◌∙◌, ap, subst, length, get_or}
 use Rattle.aq_prog.specs.declared.stmt.Stmt.{Stmt}
 use Rattle.aq_plain.specs.Vectors.{StateVector}
-use Rattle.aq_judge.specs.declared.judge.End.TheVariants as end
+use Rattle.aq_judge.specs.declared.runs.End.TheVariants as end
 use Rattle.aq_judge.specs.Bodies.{gates_in}
 use Rattle.aq_judge.specs.Finding.{amps_of}
 use Rattle.aq_judge.proofs.KeptLaws.{ends_as, kept_more, lost_by, on_qubits}
-use Rattle.aq_judge.proofs.judge.judge_starts.Goals as goal
+use Rattle.aq_judge.proofs.runs.judge_starts.Goals as goal
 
 pub loop-state-preserved : goal.loop-state-preserved
 loop-state-preserved c =

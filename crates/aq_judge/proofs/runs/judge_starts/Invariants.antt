@@ -1,7 +1,7 @@
 use Rattle.std.proofs.Common.{take}
 use Rattle.aq_judge.specs.Bodies.{gates_in}
 use Rattle.aq_judge.specs.Finding.{AreKept, amps_of}
-use Rattle.aq_judge.proofs.judge.judge_starts.Given as goal
+use Rattle.aq_judge.proofs.runs.judge_starts.Given as goal
 
 -- the runs before are kept
 abbrev pub invariant-loop-state : goal.invariant-loop-state

@@ -1,5 +1,5 @@
-//! The judge: the runs from the vectors of the precondition, one after the other.
-ghost use Rattle.std.specs.Prelude.{◌≡◌, ◌≤◌, ◌<◌, ◌^◌, [], true, All, IfOk, length};
+//! The runs from the vectors of the precondition, one after the other.
+ghost use Rattle.std.specs.Prelude.{◌≡◌, ◌^◌, [], All, IfOk, length};
 ghost use Rattle.aq_prog.specs.Gates.{IsValidGate};
 ghost use Rattle.aq_obligations.specs.Correct.{zeros};
 ghost use Rattle.aq_judge.specs.Bodies.{gates_in};
