@@ -22,7 +22,7 @@ length-grown step done (x ∷ xs) =
     let one = length_push done (step done x) in
     omega arith
 
-get_or-grown : {A : Type 0} (step : List A → Expr → A) (done : List A) (exprs : List Expr) (i : ℕ) (d : A) → i < length done → get_or (grown step done exprs) i d ≡ get_or done i d
+pub get_or-grown : {A : Type 0} (step : List A → Expr → A) (done : List A) (exprs : List Expr) (i : ℕ) (d : A) → i < length done → get_or (grown step done exprs) i d ≡ get_or done i d
 get_or-grown step done [] i d h = refl
 get_or-grown step done (x ∷ xs) i d h =
     let one = length_push done (step done x) in
