@@ -1,6 +1,5 @@
-use Rattle.std.proofs.Common.{◌≡◌, ◌∙◌, ◌≤◌, arith, sym, subst, ℕ, Ok, [], ap}
-use Rattle.aq_set_read.specs.Gathered.{most_qubits}
-use Rattle.aq_set_read.specs.Meaning.{bracket_qubits, terms_taken}
+use Rattle.std.proofs.Common.{◌∙◌, arith, sym, ℕ, [], ap}
+use Rattle.aq_set_read.specs.Meaning.{terms_taken}
 use Rattle.aq_set_read.proofs.BracketLaws.{few_qubits}
 use Rattle.aq_set_read.proofs.brackets.bracket.Goals as goal
 
