@@ -1,5 +1,5 @@
 -- Checks that pass, and checks that refuse.
-use Rattle.std.proofs.Common.{◌≡◌, Bool, true, false, Ok, Err, refl, ap, if◌then◌else◌}
+use Rattle.std.proofs.Common.{◌≡◌, Bool, true, false, Ok, refl, ap}
 use Rattle.aq_set_read.specs.Gathered.{Checked, ◌>>=◌, ◌>>◌, refuse_if}
 use Rattle.aq_set_read.specs.declared.set_fault.SetFault.{SetFault}
 

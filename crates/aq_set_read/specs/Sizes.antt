@@ -1,5 +1,5 @@
 -- How large an expression is. The numbers have no width: names that are used in names can make them as large as one likes.
-use Rattle.std.specs.Prelude.{ℕ, zero, suc, ◌+◌, ◌*◌, ◌^◌, List, [], ◌∷◌, ◌++◌, length, replicate, max}
+use Rattle.std.specs.Prelude.{ℕ, ◌+◌, ◌*◌, ◌^◌, List, [], ◌∷◌, ◌++◌, length, replicate, max}
 use Rattle.std.specs.List.{fold, repeat}
 use Rattle.aq_set_read.specs.Tables.{table, at_position}
 use Rattle.aq_set_read.specs.declared.sets.Expr.{Expr}
