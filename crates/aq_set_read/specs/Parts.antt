@@ -1,4 +1,4 @@
--- Parts of what a term, a chain and a claim mean.
+-- Parts of what a term means, as the program takes them.
 use Rattle.std.specs.Prelude.{ℕ, List, [], ◌∷◌, ◌++◌, Ok, nat_lt}
 use Rattle.aq_lex.specs.declared.place.Place.{Place}
 use Rattle.aq_set_read.specs.Gathered.{Gathered, Checked, ◌>>=◌, ◌>>◌, refuse_if, counted}
