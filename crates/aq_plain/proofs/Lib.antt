@@ -11,3 +11,4 @@ pub mod PartLaws
 pub mod TakeLaws
 pub mod WholeLaws
 pub mod BuiltLaws
+pub mod PlaceLaws

@@ -1,5 +1,6 @@
 use Rattle.aq_plain.proofs.SizeLaws.{has_count, has_long, has_shape, has_words}
 use Rattle.aq_plain.proofs.ToldLaws.{valid_exprs}
+use Rattle.aq_plain.proofs.PlaceLaws.{has_places}
 use Rattle.aq_plain.proofs.laws.expressions.Goals as goal
 
 pub returns : goal.returns
@@ -9,5 +10,6 @@ returns c = record {
     long = λ s h. has_long s.exprs (valid_exprs s h);
     shaped = λ s h. has_shape s.exprs (valid_exprs s h);
     few = λ s h. has_words s.exprs (valid_exprs s h);
+    placed = λ s h. has_places s.exprs (valid_exprs s h);
   };
 }
