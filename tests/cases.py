@@ -243,7 +243,7 @@ case("a name that isn't ASCII", ["check", "größe", "S"], {"S": BELL_SETS}, "re
 case("a file with such a name", ["check", "größe", "S"], {"größe": BELL, "S": BELL_SETS}, VERIFIED, 0)
 case("an empty name", ["check", "", "S"], {"S": BELL_SETS}, "read fault: \n", 5)
 case("a name with a blank", ["check", "my file", "S"], {"my file": BELL, "S": BELL_SETS}, VERIFIED, 0)
-case("one file twice", ["check", "P", "P"], {"P": BELL}, sets_fault(1, 1, "Unexpected"), 3)
+case("one file twice", ["check", "P", "P"], {"P": BELL}, sets_fault(1, 11, "BadByte"), 3)
 case("the program's faults come before the sets are read", ["check", "P", "S"], {"P": ""}, fault(1, 1, "NoQubits"), 3)
 case("the program is unbuilt before the sets are read", ["check", "P", "S"], {"P": "qubit q; reset q;"}, PROGRAM_UNBUILT, 3)
 case("the program is refused before the sets are read", ["check", "P", "S"], {"P": "qubit[0] q;"}, "refused: program 1:10: EmptyRegister\n", 3)
