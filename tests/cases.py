@@ -14,7 +14,7 @@ GAVE_UP_WIDTH = "1 post: gave up width\nverified 0, refuted 0, gave up 1\n"
 PROGRAM_TOO_LONG = "refused: program: TooLong\n"
 PROGRAM_UNBUILT = "refused: program: Unbuilt\n"
 SETS_TOO_LONG = "refused: sets: TooLong\n"
-SETS_UNBUILT = "refused: sets: Unbuilt\n"
+GAVE_UP_STEPS = "1 post: gave up steps\nverified 0, refuted 0, gave up 1\n"
 
 MOST_PROGRAM = 1048576
 MOST_SETS = 4194304
@@ -39,6 +39,16 @@ def refuted(state, end, bits="-"):
 def fault(line, column, said):
     """The line of a program's first fault."""
     return "refused: program %d:%d: %s\n" % (line, column, said)
+
+
+def sets_fault(line, column, said):
+    """The line of a set file's first fault."""
+    return "refused: sets %d:%d: %s\n" % (line, column, said)
+
+
+def claim_fault(claim, said):
+    """The line of a claim that doesn't fit the program, or isn't there."""
+    return "refused: claim %s: %s\n" % (claim, said)
 
 
 def claims(before, after):
@@ -170,14 +180,32 @@ checked(
 )
 verified("sixteen qubits", calls(16, "x q[15];", "x q[00];"), claims("|" + "0" * 16 + ">", "|1" + "0" * 14 + "1>"))
 checked(
-    "all kets of sixteen qubits",
-    calls(16, *["h q[%d];" % i for i in range(16)]),
+    "all kets of twelve qubits",
+    calls(12, *["h q[%d];" % i for i in range(12)]),
+    claims("|" + "0" * 12 + ">", "|" + "0" * 12 + ">"),
+    refuted(
+        [("0" * 12, "(1,0,0,0)/0")],
+        [(format(index, "012b"), "(1,0,0,0)/12") for index in range(4096)],
+    ),
+    1,
+)
+# 8 * 2^17 * (1 * (14 + 1) + (2 + 2)) = 19,922,944 steps are enough for 13 gates, and 20,971,520 for 14
+checked(
+    "half of the kets of sixteen qubits, in as many gates as there may be",
+    calls(16, *["h q[%d];" % i for i in range(13)]),
     claims("|" + "0" * 16 + ">", "|" + "0" * 16 + ">"),
     refuted(
         [("0" * 16, "(1,0,0,0)/0")],
-        [(format(index, "016b"), "(1,0,0,0)/16") for index in range(65536)],
+        [(format(index, "013b") + "000", "(1,0,0,0)/13") for index in range(8192)],
     ),
     1,
+)
+checked(
+    "a gate more",
+    calls(16, *["h q[%d];" % i for i in range(14)]),
+    claims("|" + "0" * 16 + ">", "|" + "0" * 16 + ">"),
+    GAVE_UP_STEPS,
+    2,
 )
 checked(
     "bits that no statement uses",
@@ -215,7 +243,7 @@ case("a name that isn't ASCII", ["check", "größe", "S"], {"S": BELL_SETS}, "re
 case("a file with such a name", ["check", "größe", "S"], {"größe": BELL, "S": BELL_SETS}, VERIFIED, 0)
 case("an empty name", ["check", "", "S"], {"S": BELL_SETS}, "read fault: \n", 5)
 case("a name with a blank", ["check", "my file", "S"], {"my file": BELL, "S": BELL_SETS}, VERIFIED, 0)
-case("one file twice", ["check", "P", "P"], {"P": BELL}, SETS_UNBUILT, 3)
+case("one file twice", ["check", "P", "P"], {"P": BELL}, sets_fault(1, 11, "BadByte"), 3)
 case("the program's faults come before the sets are read", ["check", "P", "S"], {"P": ""}, fault(1, 1, "NoQubits"), 3)
 case("the program is unbuilt before the sets are read", ["check", "P", "S"], {"P": "qubit q; reset q;"}, PROGRAM_UNBUILT, 3)
 case("the program is refused before the sets are read", ["check", "P", "S"], {"P": "qubit[0] q;"}, "refused: program 1:10: EmptyRegister\n", 3)
@@ -306,50 +334,57 @@ for name, program, line in [
 ]:
     checked("program: " + name, program, NOTHING_SETS, line, 3)
 
-# ---- set texts that are taken
+# ---- set texts that are taken; sets.py has more, and those that are refused
 
 verified("sets on one line", NOTHING, "claim pre=[|00>];claim post=[|00>];")
 verified("blanks in sets", NOTHING, " claim\tpre\n= [ -  |00> ]\r\n;  claim post = [ - |00> ] ; ")
 verified("kets in another order", NOTHING, claims("|00> + |01> - |11>", "-|11> + |01> + |00>"))
 verified("one ket in both claims", NOTHING, claims("|01>", "|01>"))
 
-# ---- set texts that are refused
-
 for name, sets in [
-    ("an empty text", ""),
-    ("a byte order mark", b"\xef\xbb\xbf" + NOTHING_SETS.encode()),
-    ("bytes that aren't UTF-8", NOTHING_SETS.encode() + b"\xff"),
     ("a comment", NOTHING_SETS + " // done"),
-    ("a repeated ket", claims("|00> + |00>", "|00>")),
-    ("a repeated ket with another sign", claims("|00>", "|01> + |00> - |01>")),
-    ("a ket too short", claims("|0>", "|00>")),
-    ("a ket too long", claims("|00>", "|000>")),
-    ("kets of two lengths", claims("|00> + |1>", "|00>")),
-    ("a ket with a 2", claims("|02>", "|00>")),
-    ("a ket without digits", claims("|>", "|00>")),
-    ("a blank in a ket", claims("|0 0>", "|00>")),
-    ("a ket that isn't closed", claims("|00", "|00>")),
-    ("an empty bracket", claims("", "|00>")),
-    ("a plus in front", claims("+|00>", "|00>")),
-    ("two signs", claims("--|00>", "|00>")),
-    ("a sign at the end", claims("|00> +", "|00>")),
-    ("no sign between kets", claims("|00> |11>", "|00>")),
     ("a number before a ket", claims("2|00>", "|00>")),
     ("a root of unity before a ket", claims("w|00>", "|00>")),
-    ("no postcondition", "claim pre = [|00>];"),
-    ("no precondition", "claim post = [|00>];"),
     ("the claims in the other order", "claim post = [|00>]; claim pre = [|00>];"),
-    ("a claim of another name", "claim before = [|00>]; claim post = [|00>];"),
     ("a third claim", NOTHING_SETS + " claim more = [|00>];"),
-    ("text behind the end", NOTHING_SETS + " ;"),
-    ("no semicolon", "claim pre = [|00>]; claim post = [|00>]"),
     ("a set", "set zero = [|00>]; " + NOTHING_SETS),
+    ("all basis states", "claim pre = all 2; claim post = all 2;"),
+]:
+    verified("sets: " + name, NOTHING, sets)
+for name, sets in [
     ("two cases", "claim pre = [|00>], [|11>]; claim post = [|00>];"),
     ("a union", "claim pre = [|00>] union [|11>]; claim post = [|00>];"),
-    ("all basis states", "claim pre = all 2; claim post = all 2;"),
-    ("a condition", "claim pre = [|00>]; claim post = [|00>] when c == 0;"),
 ]:
-    checked("sets: " + name, NOTHING, sets, SETS_UNBUILT, 3)
+    checked("sets: " + name, NOTHING, sets, refuted([("11", "(1,0,0,0)/0")], [("11", "(1,0,0,0)/0")]), 1)
+
+# ---- set texts that are refused; in claim pre the bracket is at column 13
+
+for name, sets, line in [
+    ("an empty text", "", claim_fault("pre", "UnknownClaim")),
+    ("a byte order mark", b"\xef\xbb\xbf" + NOTHING_SETS.encode(), sets_fault(1, 1, "BadByte")),
+    ("bytes that aren't UTF-8", NOTHING_SETS.encode() + b"\xff", sets_fault(1, 41, "NotUtf8")),
+    ("a repeated ket", claims("|00> + |00>", "|00>"), sets_fault(1, 21, "RepeatedKet")),
+    ("a repeated ket with another sign", claims("|00>", "|01> + |00> - |01>"), sets_fault(2, 29, "RepeatedKet")),
+    ("a ket too short", claims("|0>", "|00>"), claim_fault("pre", "QubitsDiffer")),
+    ("a ket too long", claims("|00>", "|000>"), claim_fault("post", "QubitsDiffer")),
+    ("kets of two lengths", claims("|00> + |1>", "|00>"), sets_fault(1, 21, "KetLength")),
+    ("a ket with a 2", claims("|02>", "|00>"), sets_fault(1, 14, "BadKet")),
+    ("a ket without digits", claims("|>", "|00>"), sets_fault(1, 14, "BadKet")),
+    ("a blank in a ket", claims("|0 0>", "|00>"), sets_fault(1, 14, "BadKet")),
+    ("a ket that isn't closed", claims("|00", "|00>"), sets_fault(1, 14, "BadKet")),
+    ("an empty bracket", claims("", "|00>"), sets_fault(1, 14, "Unexpected")),
+    ("a plus in front", claims("+|00>", "|00>"), sets_fault(1, 14, "Unexpected")),
+    ("two signs", claims("--|00>", "|00>"), sets_fault(1, 15, "Unexpected")),
+    ("a sign at the end", claims("|00> +", "|00>"), sets_fault(1, 20, "Unexpected")),
+    ("no sign between kets", claims("|00> |11>", "|00>"), sets_fault(1, 19, "Unexpected")),
+    ("no postcondition", "claim pre = [|00>];", claim_fault("post", "UnknownClaim")),
+    ("no precondition", "claim post = [|00>];", claim_fault("pre", "UnknownClaim")),
+    ("a claim of another name", "claim before = [|00>]; claim post = [|00>];", claim_fault("pre", "UnknownClaim")),
+    ("text behind the end", NOTHING_SETS + " ;", sets_fault(1, 42, "Unexpected")),
+    ("no semicolon", "claim pre = [|00>]; claim post = [|00>]", sets_fault(1, 40, "Unexpected")),
+    ("a condition", "claim pre = [|00>]; claim post = [|00>] when c == 0;", claim_fault("post", "BitUnknown")),
+]:
+    checked("sets: " + name, NOTHING, sets, line, 3)
 
 # ---- examples/: the files as they lie there; programs.py has more
 

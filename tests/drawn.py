@@ -107,10 +107,11 @@ def declared(draw, word, old, name, size):
 
 
 def drawn_program(draw):
-    """A program's text, and how many qubits it has where it is a good one."""
+    """A program's text, how many qubits it has where it is a good one, and how its bits are declared."""
     registers = drawn_registers(draw)
     lines = [declared(draw, "qubit", "qreg", name, size) for name, size in registers]
-    lines += [declared(draw, "bit", "creg", "b", draw.choice((None, 1, 3)))] if draw.randrange(2) else []
+    bits = draw.choice((0, 0, 0, None, 1, 3))
+    lines += [] if bits == 0 else [declared(draw, "bit", "creg", "b", bits)]
     calls = [call for call in (drawn_call(draw, registers) for _ in range(draw.randrange(0, 10))) if call]
     lines += calls + ([inverse(call) for call in reversed(calls)] if draw.randrange(3) == 0 else [])
     if draw.randrange(4) == 0:
@@ -120,16 +121,72 @@ def drawn_program(draw):
         if draw.randrange(6) == 0:
             lines.insert(draw.randrange(1, len(lines) + 1), text)
     head = draw.choice(("", "", "OPENQASM 3;\n", 'OPENQASM 3.0;\ninclude "stdgates.inc";\n'))
-    return head + "\n".join(lines) + "\n", sum(size or 1 for name, size in registers)
+    return head + "\n".join(lines) + "\n", sum(size or 1 for name, size in registers), bits
+
+
+def drawn_coefficient(draw):
+    """A coefficient, which now and then is 0, or so large that a product doesn't fit."""
+    number = str(draw.choice((0, 1, 2, 3, 7, 2**64, 2**127 - 1)))
+    quad = "(%s)" % ", ".join(str(draw.randrange(-3, 4)) for _ in range(4))
+    turn = draw.choice(("i", "w", "w^%d" % draw.randrange(20)))
+    scalar = draw.choice((number, quad, turn, turn, draw.choice(("2", "3 ", "007")) + turn))
+    return scalar + draw.choice(("", "", "/sqrt2", " / sqrt2^%d" % draw.randrange(5), "/sqrt2^4294967295"))
 
 
 def drawn_bracket(draw, qubits):
     count = draw.randrange(1, min(4, 2**qubits) + 1)
     kets = draw.sample(range(2**qubits), count)
-    text = draw.choice(("", "-"))
+    text = draw.choice(("", "", "-"))
     for place, ket in enumerate(kets):
-        text += (draw.choice(SIGNS) if place else "") + "|" + format(ket, "0%db" % qubits) + ">"
+        text += draw.choice(SIGNS) if place else ""
+        text += (drawn_coefficient(draw) + " " if draw.randrange(4) == 0 else "") + "|" + format(ket, "0%db" % qubits) + ">"
     return "[" + text + "]"
+
+
+def drawn_set(draw, qubits, named, depth=0):
+    """An expression on so many qubits. `named` has names of earlier sets with their qubits."""
+    ways = ["bracket"] * 4 + ["all", "name", "paren"] + ["union"] * (2 if depth < 3 else 0)
+    ways += ["tensor"] * 2 if qubits > 1 else []
+    way = draw.choice(ways)
+    if way == "name" and qubits in named.values():
+        return draw.choice(sorted(name for name, size in named.items() if size == qubits))
+    if way == "all":
+        return "all %d" % qubits
+    if way == "paren":
+        divisor = draw.choice([part for part in range(1, qubits + 1) if qubits % part == 0])
+        return "(%s)^%d" % (drawn_set(draw, divisor, named, depth + 1), qubits // divisor)
+    if way == "union":
+        return "(%s union %s)" % tuple(drawn_set(draw, qubits, named, depth + 1) for _ in range(2))
+    if way == "tensor":
+        left = draw.randrange(1, qubits)
+        return "%s * %s" % (drawn_set(draw, left, named, depth + 1), drawn_set(draw, qubits - left, named, depth + 1))
+    return drawn_bracket(draw, qubits)
+
+
+def drawn_case(draw, qubits, bits, named):
+    """A case, now and then with conditions, of which some name no bit of the program."""
+    text = drawn_set(draw, qubits if draw.randrange(60) else qubits + 1, named)
+    names = ["b" if bits in (None, 1) else "b[%d]" % draw.randrange(bits or 1)] * 12 + ["b", "b[3]", "c"]
+    if draw.randrange(3) == 0 and (bits != 0 or draw.randrange(10) == 0):
+        text += " when " + " and ".join("%s == %s" % (draw.choice(names), draw.choice(("0", "0", "1", "00"))) for _ in range(draw.randrange(1, 3)))
+    return text
+
+
+def drawn_sets(draw, qubits, bits):
+    """The text of a set file for a program."""
+    named, lines = {}, []
+    for name in draw.sample(("zero", "_p", "w1", "Union", "post2"), draw.randrange(3)):
+        size = draw.randrange(1, qubits + 1)
+        lines.append("set %s = %s;" % (name, drawn_set(draw, size, named)))
+        named[name] = size
+    before = ", ".join(drawn_case(draw, qubits, bits, named) for _ in range(draw.choice((1, 1, 2))))
+    # the same cases twice give a program without gates, or with gates that undo each other, a chance to be verified
+    after = draw.choice((before, ", ".join(drawn_case(draw, qubits, bits, named) for _ in range(draw.choice((1, 2))))))
+    claims = ["claim pre = %s;" % before, "claim post = %s;" % after]
+    lines += draw.choice((claims, claims, claims[::-1]))
+    if draw.randrange(6) == 0:
+        lines.insert(draw.randrange(len(lines) + 1), draw.choice(("// a comment", "/* a\ncomment */", "claim x = all 1;", "set pre = all 1;", "set y = none;")))
+    return "\n".join(lines) + "\n"
 
 
 def spoiled(draw, text):
@@ -142,13 +199,10 @@ def spoiled(draw, text):
 def drawn_pair(seed):
     """A program's text and a set file's."""
     draw = random.Random(seed)
-    program, qubits = drawn_program(draw)
-    # the same bracket twice gives a program without gates, or with gates that undo each other, a chance to be verified
-    before = drawn_bracket(draw, qubits)
-    after = draw.choice((before, drawn_bracket(draw, qubits)))
-    sets = "claim pre = %s;\nclaim post = %s;\n" % (before, after)
-    if draw.randrange(4) == 0:
+    program, qubits, bits = drawn_program(draw)
+    sets = drawn_sets(draw, qubits, bits)
+    if draw.randrange(6) == 0:
         program = spoiled(draw, program)
-    if draw.randrange(8) == 0:
+    if draw.randrange(6) == 0:
         sets = spoiled(draw, sets)
     return program.encode(), sets.encode()

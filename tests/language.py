@@ -323,7 +323,8 @@ class Meaning:
             raise Refused(end, "NoQubits")
         if self.others:
             raise Unbuilt
-        return (self.counts[True], self.counts[False], self.gates)
+        bits = {name: (size, numbers) for name, (quantum, size, numbers) in self.names.items() if not quantum}
+        return (self.counts[True], bits, self.gates)
 
     def statement(self, made, inside):
         asserts = self.notes(made)
@@ -460,5 +461,5 @@ def instance(name, eighths, operands):
 
 
 def read(text):
-    """The counts of qubits and of bits, and the gates in order."""
+    """The number of qubits, the registers of bits with their sizes and bits, and the gates in order."""
     return Meaning().program(*Reader(tokens(text)).program())

@@ -2,18 +2,23 @@
 
 It shares nothing with the checker but the definitions: numbers are Python's, of any size; texts are cut by regular
 expressions; a gate is computed entry by entry. `answer` gives what the program is to print for two texts, and its status.
-Programs are read by language.py, whole; sets are those of docs/SETS.md.
+Programs are read by language.py and set files by set_language.py, both whole.
 """
 
-import re
+import sys
 
 import language
+import set_language
 
 LIMIT = 2**127
+MOST_POWER = 2**32 - 1
+MOST_STEPS = 20000000
 MOST_PROGRAM = 1048576
 MOST_SETS = 4194304
 ZERO = ((0, 0, 0, 0), 0)
 ONE = ((1, 0, 0, 0), 0)
+# names that are used in names nest as deep as there are names
+sys.setrecursionlimit(20000)
 
 # an entry is None for zero, or (j, e) for w^j / sqrt(2)^e
 FIXED = {
@@ -61,6 +66,12 @@ def fitting(coefficients):
     return coefficients
 
 
+def fitting_power(amplitude):
+    if amplitude[1] > MOST_POWER:
+        raise Wide
+    return amplitude
+
+
 def times_root(quad):
     a, b, c, d = quad
     return (b - d, a + c, b + d, c - a)
@@ -104,6 +115,7 @@ def times(left, right):
     for row in rows:
         fitting(row)
         fitting(tuple(sum(row[: count + 1]) for count in range(4)))
+    fitting_power((rows, left[1] + right[1]))
     return lowest(tuple(sum(row) for row in rows), left[1] + right[1])
 
 
@@ -119,7 +131,7 @@ def term(entry, amplitude):
         return ZERO
     amplitude = turned(amplitude, entry[0])
     for _ in range(entry[1]):
-        amplitude = lowest(amplitude[0], amplitude[1] + 1)
+        amplitude = fitting_power(lowest(amplitude[0], amplitude[1] + 1))
     return amplitude
 
 
@@ -135,51 +147,151 @@ def after(vector, qubits, gate):
     return new
 
 
-PIECE = re.compile(rb"[ \t\r\n]*(?:([A-Za-z_]\w*)|(\|[01]+>)|([;\[\]=+-]))", re.ASCII)
+# ---- the vectors that an expression lists
 
 
-def pieces(text):
-    found, at = [], 0
-    while text[at:].strip(b" \t\r\n"):
-        match = PIECE.match(text, at)
-        if not match:
-            return None
-        found.append(match.group(match.lastindex))
-        at = match.end()
+def entries_of(qubits, amplitudes):
+    """The vector with these amplitudes by their places, and zero elsewhere."""
+    vector = [ZERO] * (1 << qubits)
+    for place, amplitude in amplitudes:
+        vector[place] = amplitude
+    return vector
+
+
+def tensors(left, right):
+    return [[times(a, b) for a in first for b in second] for first in left for second in right]
+
+
+def powers(base, number):
+    found = base
+    for _ in range(number - 1):
+        found = tensors(found, base)
     return found
 
 
-def bracket(words, at, qubits):
-    """The vector of the kets behind a `[`, and the place behind its `]`, or None."""
-    vector = [ZERO] * (1 << qubits)
-    first = True
-    while first or words[at : at + 1] != [b"]"]:
-        sign = words[at : at + 1]
-        if sign in ([b"-"], [b"+"]) and not (first and sign == [b"+"]):
-            at += 1
-        elif not first:
-            return None
-        ket = words[at] if at < len(words) else b""
-        if not ket.startswith(b"|") or len(ket) != qubits + 2 or vector[int(ket[1:-1], 2)] != ZERO:
-            return None
-        vector[int(ket[1:-1], 2)] = turned(ONE, 4 if sign == [b"-"] else 0)
-        first = False
-        at += 1
-    return (vector, at + 1)
+def vectors(expr):
+    kind, parts = expr["kind"], expr["parts"]
+    if kind == "name":
+        return vectors(expr["of"])
+    if kind == "bracket":
+        terms = [(int(ket.text[1:-1], 2), lowest(quad, roots)) for _, quad, roots, ket in expr["terms"]]
+        return [entries_of(expr["qubits"], terms)]
+    if kind == "all":
+        return [entries_of(expr["qubits"], [(place, ONE)]) for place in range(1 << expr["qubits"])]
+    if kind == "power":
+        return powers(vectors(parts[0]), expr["number"])
+    if kind == "tensor":
+        return tensors(vectors(parts[0]), vectors(parts[1]))
+    found = []
+    for part in united(expr):
+        found += vectors(part)
+    return found
 
 
-def sets_of(text, qubits):
-    """The vectors of the two claims, or None."""
-    words, at, vectors = pieces(text), 0, []
-    for name in (b"pre", b"post"):
-        if words is None or words[at : at + 4] != [b"claim", name, b"=", b"["]:
-            return None
-        found = bracket(words, at + 4, qubits)
-        if not found or words[found[1] : found[1] + 1] != [b";"]:
-            return None
-        vectors.append(found[0])
-        at = found[1] + 1
-    return vectors if at == len(words) else None
+def united(expr):
+    """The parts of a union and of the unions on its left, from the left to the right."""
+    parts = []
+    while expr["kind"] == "union":
+        parts.append(expr["parts"][1])
+        expr = expr["parts"][0]
+    return [expr] + parts[::-1]
+
+
+# ---- how many steps are enough
+
+
+def size(expr):
+    """The choices of an expression, one number for each qubit, and its nodes with names written out."""
+    if "size" in expr:
+        return expr["size"]
+    kind, parts = expr["kind"], expr["parts"]
+    if kind == "name":
+        found = size(expr["of"])
+    elif kind == "bracket":
+        found = [1] * expr["qubits"], 1 + len(expr["terms"])
+    elif kind == "all":
+        found = [2] * expr["qubits"], 1
+    elif kind == "power":
+        shape, nodes = size(parts[0])
+        found = shape * expr["number"], nodes + expr["number"]
+    elif kind == "tensor":
+        (left, first), (right, second) = size(parts[0]), size(parts[1])
+        found = left + right, 1 + first + second
+    else:
+        found = size_of_union(united(expr))
+    expr["size"] = found
+    return found
+
+
+def size_of_union(parts):
+    shape, nodes = size(parts[0])
+    for part in parts[1:]:
+        other, more = size(part)
+        shape = [shape[0] + other[0]] + [max(pair) for pair in zip(shape[1:], other[1:])]
+        nodes += more + 1
+    return shape, nodes
+
+
+def product(numbers):
+    found = 1
+    for number in numbers:
+        found *= number
+    return found
+
+
+def enough(qubits, statements, before, after):
+    """The steps that are enough for a program of gates. A case is an expression and its conditions, of bits and values."""
+    words = [sum(product(size(expr)[0]) for expr, _ in cases) for cases in (before, after)]
+    weights = sum(size(expr)[1] * product(size(expr)[0]) for expr, _ in before + after)
+    bits = {bit for _, conditions in before + after for bit, _ in conditions}
+    entries = 2 ** (qubits + 1)
+    return 8 * (2 ** len(bits) * words[0] * entries * (statements + 1 + words[1]) + entries * weights)
+
+
+# ---- claims
+
+
+class ClaimRefused(Exception):
+    """A claim that isn't there, or doesn't fit the program."""
+
+    def __init__(self, claim, name):
+        self.line = "refused: claim %s: %s\n" % (claim, name)
+
+
+def bit_of(registers, name, index):
+    """The number of a bit, or nothing where the program has no such bit."""
+    if name not in registers:
+        return None
+    size, bits = registers[name]
+    if index is None:
+        return bits[0] if len(bits) == 1 else None
+    return bits[index] if size is not None and index < size else None
+
+
+def bound(claim, cases, qubits, registers):
+    """The cases of a claim, with the bits of the program that they name."""
+    found = []
+    for expr, conditions in cases:
+        if expr["qubits"] != qubits:
+            raise ClaimRefused(claim, "QubitsDiffer")
+        bits = [(bit_of(registers, name, index), value) for name, index, value in conditions]
+        if any(bit is None for bit, _ in bits):
+            raise ClaimRefused(claim, "BitUnknown")
+        found.append((expr, bits))
+    return found
+
+
+def asked(claims, qubits, registers):
+    """The cases of the precondition and of the postcondition."""
+    for name in ("pre", "post"):
+        if name.encode() not in claims:
+            raise ClaimRefused(name, "UnknownClaim")
+    return [bound(name, claims[name.encode()], qubits, registers) for name in ("pre", "post")]
+
+
+def met(cases):
+    """The vectors of the cases that ask for no bit 1."""
+    return [vector for expr, bits in cases if not any(value for _, value in bits) for vector in vectors(expr)]
 
 
 def is_multiple(end, goal):
@@ -202,12 +314,53 @@ def entries(label, qubits, vector):
     return lines
 
 
-def wrong_end(qubits, gates, before, goal):
-    """The end of the gates from a vector, or None where it is the goal's state."""
-    end = before
-    for gate in gates:
-        end = after(end, qubits, gate)
-    return None if is_multiple(end, goal) else end
+def is_kept(end, goals):
+    """Whether an end is zero, or a nonzero multiple of a goal; a comparison that doesn't fit counts where no other tells."""
+    if not any(amplitude != ZERO for amplitude in end):
+        return True
+    wide = False
+    for goal in goals:
+        try:
+            if is_multiple(end, goal):
+                return True
+        except Wide:
+            wide = True
+    if wide:
+        raise Wide
+    return False
+
+
+def first_escape(qubits, gates, before, goal):
+    """The first state whose end is in no goal, and that end; or nothing."""
+    goals = met(goal)
+    for state in met(before):
+        end = state
+        for gate in gates:
+            end = after(end, qubits, gate)
+        if not is_kept(end, goals):
+            return (state, end)
+    return None
+
+
+def report(bits, qubits, gates, before, goal):
+    """What is printed for a program of gates between two claims, and the status."""
+    gave_up = "1 post: gave up %s\nverified 0, refuted 0, gave up 1\n"
+    if MOST_STEPS < enough(qubits, len(gates), before, goal):
+        return gave_up % "steps", 2
+    try:
+        escape = first_escape(qubits, gates, before, goal)
+    except Wide:
+        return gave_up % "width", 2
+    if escape is None:
+        return "1 post: verified\nverified 1, refuted 0, gave up 0\n", 0
+    digits = "0" * bits or "-"
+    return (
+        "1 post: refuted\n  bits %s\n" % digits
+        + entries("state", qubits, escape[0])
+        + "  outcomes -\n  end bits %s\n" % digits
+        + entries("end", qubits, escape[1])
+        + "verified 0, refuted 1, gave up 0\n"
+    ), 1
 
 
 def answer(program, sets):
@@ -215,27 +368,19 @@ def answer(program, sets):
     if len(program) > MOST_PROGRAM:
         return "refused: program: TooLong\n", 3
     try:
-        qubits, bits, gates = language.read(program)
+        qubits, registers, gates = language.read(program)
     except language.Refused as refused:
         return "refused: program %s\n" % refused.line, 3
     except language.Unbuilt:
         return "refused: program: Unbuilt\n", 3
     if len(sets) > MOST_SETS:
         return "refused: sets: TooLong\n", 3
-    vectors = sets_of(sets, qubits)
-    if not vectors:
-        return "refused: sets: Unbuilt\n", 3
     try:
-        end = wrong_end(qubits, gates, *vectors)
-    except Wide:
-        return "1 post: gave up width\nverified 0, refuted 0, gave up 1\n", 2
-    if end is None:
-        return "1 post: verified\nverified 1, refuted 0, gave up 0\n", 0
-    digits = "0" * bits or "-"
-    return (
-        "1 post: refuted\n  bits %s\n" % digits
-        + entries("state", qubits, vectors[0])
-        + "  outcomes -\n  end bits %s\n" % digits
-        + entries("end", qubits, end)
-        + "verified 0, refuted 1, gave up 0\n"
-    ), 1
+        claims = set_language.read(sets)
+    except set_language.Refused as refused:
+        return "refused: sets %s\n" % refused.line(sets), 3
+    try:
+        before, goal = asked(claims, qubits, registers)
+    except ClaimRefused as refused:
+        return refused.line, 3
+    return report(sum(len(bits) for _, bits in registers.values()), qubits, gates, before, goal)

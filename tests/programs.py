@@ -191,7 +191,7 @@ wrong("one bit", "qubit q; bit c; barrier q; x q;", "|0>", "|0>", [("0", ONE)], 
 verified("as many statements as there may be", "qubit[2] q;" + "x q[0];" * MOST_CALLS, "|00>", "|00>")
 WITHOUT_STATEMENTS = "barrier q; include 'stdgates.inc'; qubit r;"
 verified("declarations and barriers aren't counted", "qubit q; bit c;" + "x q;" * MOST_CALLS + WITHOUT_STATEMENTS, "|00>", "|00>")
-verified("swaps and registers up to the most statements", "qubit[4] q;" + "x q;" * 24999 + "swap q[0], q[1]; id q[0];", "|0000>", "|1111>")
+verified("swaps and registers up to the most statements", "qubit[2] q;" + "x q;" * 49998 + "swap q[0], q[1]; id q[0];", "|01>", "|10>")
 checked("numbers too wide", "qubit[2] q;" + "h q; t q; cx q[0], q[1];" * 2000, claims("|00>", "|00>"), GAVE_UP_WIDTH, 2)
 
 # ---- faults of the tokens
