@@ -60,7 +60,7 @@ fn answer(alloc: Global, program: &[u8], sets: &[u8]) -> Result<(Status, Text), 
 #[test]
 fn reports(rt: HostRuntime) -> Result<(), Fail> {
     let alloc = rt.alloc();
-    let rows: [(&[u8], &[u8], &[u8], u8); 6] = [
+    let rows: [(&[u8], &[u8], &[u8], u8); 13] = [
         (
             BELL,
             PLUS,
@@ -96,6 +96,50 @@ fn reports(rt: HostRuntime) -> Result<(), Fail> {
             b"claim pre = [|0>]; claim post = [|0>];",
             b"1 post: refuted\n  bits 000\n  state |0> (1,0,0,0)/0\n  outcomes -\n  end bits 000\n  end |1> (1,0,0,0)/0\nverified 0, refuted 1, gave up 0\n",
             1,
+        ),
+        (
+            b"qubit[2] q; cx q[0], q[1];",
+            b"claim pre = [|00>] union [|10>]; claim post = [|0>]^2 union [|11>];",
+            b"1 post: verified\nverified 1, refuted 0, gave up 0\n",
+            0,
+        ),
+        // The first state that doesn't end as it should is shown.
+        (
+            b"qubit[2] q; cx q[0], q[1];",
+            b"set b = all 2; claim pre = b; claim post = [|0>] * all 1 union [|11>];",
+            b"1 post: refuted\n  bits -\n  state |11> (1,0,0,0)/0\n  outcomes -\n  end bits -\n  end |10> (1,0,0,0)/0\nverified 0, refuted 1, gave up 0\n",
+            1,
+        ),
+        (
+            b"qubit q; h q;",
+            b"/* up to a factor */ claim post = [3i|0> + 3i|1>]; claim pre = [(0,0,-1,0)/sqrt2|0>];",
+            b"1 post: verified\nverified 1, refuted 0, gave up 0\n",
+            0,
+        ),
+        // No run begins with a bit 1.
+        (
+            b"qubit q; bit c; x q;",
+            b"claim pre = [|1>] when c == 1; claim post = [|1>];",
+            b"1 post: verified\nverified 1, refuted 0, gave up 0\n",
+            0,
+        ),
+        (
+            b"qubit q; bit[2] c; x q;",
+            b"claim pre = [|1>] when c[0] == 0 and c[1] == 0; claim post = [|0>] when c[1] == 1, [|1>];",
+            b"1 post: refuted\n  bits 00\n  state |1> (1,0,0,0)/0\n  outcomes -\n  end bits 00\n  end |0> (1,0,0,0)/0\nverified 0, refuted 1, gave up 0\n",
+            1,
+        ),
+        (
+            b"qubit q; h q;",
+            b"claim pre = [170141183460469231731687303715884105727|0> + 170141183460469231731687303715884105727|1>]; claim post = [|0>];",
+            b"1 post: gave up width\nverified 0, refuted 0, gave up 1\n",
+            2,
+        ),
+        (
+            b"qubit[16] q; x q;",
+            b"claim pre = all 16; claim post = all 16;",
+            b"1 post: gave up steps\nverified 0, refuted 0, gave up 1\n",
+            2,
         ),
     ];
     for (row, (program, sets, wanted, code)) in rows.iter().enumerate() {
@@ -153,11 +197,74 @@ fn refusals(rt: HostRuntime) -> Result<(), Fail> {
 }
 
 #[test]
-fn sets_that_are_not_thin(rt: HostRuntime) -> Result<(), Fail> {
-    let sets = b"claim pre = [|00> + |00>]; claim post = [|00>];";
-    let (status, bytes) = answer(rt.alloc(), BELL, sets.as_slice())?;
-    assert_eq!(rt; status, Status::Refused);
-    assert_eq!(rt; bytes.as_slice(), b"refused: sets: Unbuilt\n".as_slice());
+fn refusals_of_sets(rt: HostRuntime) -> Result<(), Fail> {
+    let alloc = rt.alloc();
+    let rows: [(&[u8], &[u8]); 20] = [
+        (b"claim pre = [|0>]; \xff", b"refused: sets 1:20: NotUtf8\n"),
+        (b"claim pre = [|0>];\n #", b"refused: sets 2:2: BadByte\n"),
+        (
+            b"claim pre /* = [|0>];",
+            b"refused: sets 1:11: OpenComment\n",
+        ),
+        (
+            b"claim pre = [170141183460469231731687303715884105728|0>];",
+            b"refused: sets 1:14: LongNumber\n",
+        ),
+        (b"claim pre = [|2>];", b"refused: sets 1:14: BadKet\n"),
+        (b"claim pre [|0>];", b"refused: sets 1:11: Unexpected\n"),
+        (
+            b"claim pre = (((((((((((((((((((((((((((((((((((((((((((((((((((((((((((((((((",
+            b"refused: sets 1:77: TooDeep\n",
+        ),
+        (
+            b"claim pre = [|0>];\nset pre = all 1;",
+            b"refused: sets 2:5: TwiceNamed\n",
+        ),
+        (b"claim pre = zero;", b"refused: sets 1:13: UnknownSet\n"),
+        (b"claim pre = all 17;", b"refused: sets 1:13: QubitCount\n"),
+        (
+            b"claim pre = [1/sqrt2^4294967296|0>];",
+            b"refused: sets 1:14: AmpTooWide\n",
+        ),
+        (
+            b"claim pre = [|0> + |00>];",
+            b"refused: sets 1:20: KetLength\n",
+        ),
+        (
+            b"claim pre = [|0> + |0>];",
+            b"refused: sets 1:20: RepeatedKet\n",
+        ),
+        (b"", b"refused: claim pre: UnknownClaim\n"),
+        (
+            b"set pre = [|0>]; claim post = [|00>];",
+            b"refused: claim pre: UnknownClaim\n",
+        ),
+        (
+            b"claim pre = [|00>];",
+            b"refused: claim post: UnknownClaim\n",
+        ),
+        (
+            b"claim pre = [|0>]; claim post = [|00>];",
+            b"refused: claim post: QubitsDiffer\n",
+        ),
+        (
+            b"claim pre = [|00>] when d == 0; claim post = [|0>];",
+            b"refused: claim pre: QubitsDiffer\n",
+        ),
+        (
+            b"claim pre = [|0>] when d == 0; claim post = [|00>];",
+            b"refused: claim pre: BitUnknown\n",
+        ),
+        (
+            b"claim pre = [|0>]; claim post = [|1>] when c[0] == 0;",
+            b"refused: claim post: BitUnknown\n",
+        ),
+    ];
+    for (row, (sets, wanted)) in rows.iter().enumerate() {
+        let (status, bytes) = answer(alloc, b"qubit q; bit c; x q;", sets)?;
+        assert_eq!(rt; status, Status::Refused, "in row {row}");
+        assert_eq!(rt; bytes.as_slice(), *wanted, "in row {row}");
+    }
     Ok(())
 }
 
