@@ -3,18 +3,18 @@
 use std::env;
 
 #[derive(Clone, Copy, PartialEq)]
-struct Amp {
-    num: [i128; 4],
-    power: u32,
+pub struct Amp {
+    pub num: [i128; 4],
+    pub power: u32,
 }
 
 #[derive(Clone, Copy)]
-enum Entry {
+pub enum Entry {
     Zero,
     Unit { turn: u8, roots: u8 },
 }
 
-const ZERO: Amp = Amp { num: [0; 4], power: 0 };
+pub const ZERO: Amp = Amp { num: [0; 4], power: 0 };
 
 fn is_even(n: i128) -> bool {
     n % 2 == 0
@@ -24,11 +24,11 @@ fn half_sum(x: i128, y: i128) -> i128 {
     x / 2 + y / 2 + (x % 2 + y % 2) / 2
 }
 
-fn checked(n: i128) -> Option<i128> {
+pub fn checked(n: i128) -> Option<i128> {
     if n == i128::MIN { None } else { Some(n) }
 }
 
-fn lowest(mut num: [i128; 4], mut power: u32) -> Amp {
+pub fn lowest(mut num: [i128; 4], mut power: u32) -> Amp {
     if num == [0; 4] {
         return ZERO;
     }
@@ -58,7 +58,7 @@ fn times_roots(mut num: [i128; 4], times: u32) -> Option<[i128; 4]> {
 }
 
 impl Amp {
-    fn turn(self, times: u8) -> Amp {
+    pub fn turn(self, times: u8) -> Amp {
         let mut num = self.num;
         for _ in 0..times {
             let [a, b, c, d] = num;
@@ -128,17 +128,17 @@ fn always_fits(row: [Entry; 2]) -> bool {
     )
 }
 
-struct Gate {
-    controls: Vec<u32>,
-    target: u32,
-    rows: [[Entry; 2]; 2],
+pub struct Gate {
+    pub controls: Vec<u32>,
+    pub target: u32,
+    pub rows: [[Entry; 2]; 2],
 }
 
 fn digit(index: usize, qubits: u32, qubit: u32) -> usize {
     (index >> (qubits - 1 - qubit)) % 2
 }
 
-fn apply(amps: &mut [Amp], qubits: u32, gate: &Gate) -> Result<(), (Amp, Amp)> {
+pub fn apply(amps: &mut [Amp], qubits: u32, gate: &Gate) -> Result<(), (Amp, Amp)> {
     let weight = 1usize << (qubits - 1 - gate.target);
     let controlled = |x: usize| gate.controls.iter().all(|c| digit(x, qubits, *c) == 1);
     if !(always_fits(gate.rows[0]) && always_fits(gate.rows[1])) {

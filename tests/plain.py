@@ -66,10 +66,10 @@ def fitting(coefficients):
     return coefficients
 
 
-def fitting_power(amplitude):
-    if amplitude[1] > MOST_POWER:
+def fitting_power(power):
+    if power > MOST_POWER:
         raise Wide
-    return amplitude
+    return power
 
 
 def times_root(quad):
@@ -115,8 +115,7 @@ def times(left, right):
     for row in rows:
         fitting(row)
         fitting(tuple(sum(row[: count + 1]) for count in range(4)))
-    fitting_power((rows, left[1] + right[1]))
-    return lowest(tuple(sum(row) for row in rows), left[1] + right[1])
+    return lowest(tuple(sum(row) for row in rows), fitting_power(left[1] + right[1]))
 
 
 def turned(amplitude, count):
@@ -131,7 +130,8 @@ def term(entry, amplitude):
         return ZERO
     amplitude = turned(amplitude, entry[0])
     for _ in range(entry[1]):
-        amplitude = fitting_power(lowest(amplitude[0], amplitude[1] + 1))
+        amplitude = lowest(amplitude[0], amplitude[1] + 1)
+        fitting_power(amplitude[1])
     return amplitude
 
 
