@@ -1,13 +1,13 @@
 -- Terms of a bracket, and their indices.
-use Rattle.std.proofs.Common.{◌≡◌, ℕ, ◌≤◌, arith, tests, rules, Bool, true, false, not, ◌||◌, List, [], ◌∷◌, ◌++◌, map, nat_eq, nat_lt, ◌==◌, length, Ok, Err, refl, sym, ap, ◌∙◌, if◌then◌else◌}
+use Rattle.std.proofs.Common.{◌≡◌, ℕ, ◌≤◌, arith, tests, rules, Bool, true, false, not, ◌||◌, List, [], ◌∷◌, ◌++◌, map, nat_eq, nat_lt, ◌==◌, length, Ok, Err, refl, sym, ap, ◌∙◌}
 use Rattle.std.specs.List.{list_any}
 use Rattle.aq_lex.specs.declared.place.Place.{Place}
-use Rattle.aq_set_read.specs.Gathered.{Gathered, Checked, ◌>>=◌, ◌>>◌, refuse_if, counted, most_qubits}
+use Rattle.aq_set_read.specs.Gathered.{Gathered, ◌>>=◌, ◌>>◌, refuse_if, counted, most_qubits}
 use Rattle.aq_set_read.specs.Meaning.{Step, step, terms_taken, bracket_qubits, stands_in, digits_of, ket_length, binary, index_of, term_of, term_behind, term_taken, most_roots}
 use Rattle.aq_set_read.specs.Parts.{term_added, term_counted, roots_taken}
 use Rattle.aq_set_read.specs.Coefs.{amplitude_of, roots_of}
 use Rattle.aq_set_read.specs.declared.tree.SetTerm.{SetTerm}
-use Rattle.aq_set_read.proofs.CheckLaws.{second_passed, passes, has_passed, check_then}
+use Rattle.aq_set_read.proofs.CheckLaws.{passes, has_passed, check_then}
 use Rattle.aq_set_read.specs.declared.sets.Term.{Term}
 use Rattle.aq_set_read.specs.declared.set_fault.SetFault.TheVariants as faults
 
@@ -53,13 +53,3 @@ term_goes_on n earlier t g roots digits term taken few at_digits long at_index a
     ∙ sym (passes (nat_lt most_qubits n) (faults.QubitCount t.ket.at) (refuse_if (not (ket_length t == n)) (faults.KetLength t.ket.at) >> last) is_few)
     ∙ sym (passes (nat_lt most_roots (roots_of t.coef)) (faults.AmpTooWide t.at) (refuse_if (nat_lt most_qubits n) (faults.QubitCount t.ket.at) >> refuse_if (not (ket_length t == n)) (faults.KetLength t.ket.at) >> last)
     (has_passed (nat_lt most_roots (roots_of t.coef)) (faults.AmpTooWide t.at) (roots_of t.coef) roots taken))
-
--- a bracket has few qubits where its terms are taken
-pub few_qubits : (terms : List SetTerm) (g : Gathered) (s : Step (List Term)) → terms_taken (bracket_qubits terms) [] terms g ≡ Ok s → bracket_qubits terms ≤ most_qubits
-unfolding term_taken
-few_qubits [] g s e = omega arith
-few_qubits (t ∷ ts) g s e =
-    let n = ket_length t in
-    let last = refuse_if (not (ket_length t == n)) (faults.KetLength t.ket.at) >> refuse_if (stands_in [] (index_of t)) (faults.RepeatedKet t.ket.at) >> (counted t.ket.at g >>= λ h. Ok (step h (term_behind [] t))) in
-    let few = second_passed (nat_lt most_roots (roots_of t.coef)) (nat_lt most_qubits n) (faults.AmpTooWide t.at) (faults.QubitCount t.ket.at) last (λ r. terms_taken n r.value ts r.gathered) s e in
-    search (tests, rules)

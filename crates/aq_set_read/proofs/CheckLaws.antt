@@ -1,5 +1,5 @@
 -- Checks that pass, and checks that refuse.
-use Rattle.std.proofs.Common.{◌≡◌, Bool, true, false, Ok, Err, refl, ap, if◌then◌else◌}
+use Rattle.std.proofs.Common.{◌≡◌, Bool, true, false, Ok, refl, ap}
 use Rattle.aq_set_read.specs.Gathered.{Checked, ◌>>=◌, ◌>>◌, refuse_if}
 use Rattle.aq_set_read.specs.declared.set_fault.SetFault.{SetFault}
 
@@ -16,9 +16,3 @@ has_passed false f x y e = refl
 pub check_then : {A B : Type 0} (b : Bool) (f : SetFault) (x : A) (rest : A → Checked B) → ((refuse_if b f >> Ok x) >>= rest) ≡ (refuse_if b f >> rest x)
 check_then true f x rest = refl
 check_then false f x rest = refl
-
--- what gives something at its end has passed its second check
-pub second_passed : {A B : Type 0} (first second : Bool) (e f : SetFault) (rest : Checked A) (next : A → Checked B) (y : B) → ((refuse_if first e >> refuse_if second f >> rest) >>= next) ≡ Ok y → second ≡ false
-second_passed true second e f rest next y given = cc
-second_passed false true e f rest next y given = cc
-second_passed false false e f rest next y given = refl

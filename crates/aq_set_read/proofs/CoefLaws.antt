@@ -1,5 +1,5 @@
 -- Amplitudes of coefficients.
-use Rattle.std.proofs.Common.{◌≡◌, ℕ, ◌≤◌, ◌-◌, arith, sym, ap, ◌∙◌}
+use Rattle.std.proofs.Common.{◌≡◌, ℕ, ◌-◌, arith, sym, ap, ◌∙◌}
 use Rattle.aq_ring.specs.Quads.{Quad, quad_neg, turned_by, times_roots}
 use Rattle.aq_ring.specs.Amplitudes.{lowest_form, turn}
 use Rattle.aq_ring.proofs.QuadLaws.{turned-four}

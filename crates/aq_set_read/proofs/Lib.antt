@@ -15,6 +15,13 @@ mod CheckLaws
 mod BracketLaws
 mod TableLaws
 mod QubitLaws
+mod ValidChecks
+mod ValidSizes
+mod ValidNodes
+mod ValidTerms
+mod ValidExprs
+mod ValidItems
+mod TextsLaws
 pub mod Layers
 pub mod ChainLaws
 pub mod ExprLaws

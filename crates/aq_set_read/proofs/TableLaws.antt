@@ -1,8 +1,8 @@
 -- Tables over expressions: what stands at a position is told from what stands before it.
-use Rattle.std.proofs.Common.{◌≡◌, ℕ, suc, ◌+◌, ◌<◌, ◌≤◌, List, [], ◌∷◌, ◌++◌, Some, length, get_or, take, drop, refl, sym, ap, ◌∙◌, arith}
+use Rattle.std.proofs.Common.{◌≡◌, ℕ, ◌+◌, ◌<◌, ◌≤◌, List, [], ◌∷◌, ◌++◌, Some, length, get_or, take, drop, refl, sym, ap, ◌∙◌, arith}
 use Rattle.std.specs.Prelude.{slice_get}
 use Rattle.std.specs.List.{fold}
-use Rattle.std.proofs.lemmas.List.{get_or_append_left, get_or_push, length-take-le, length_push, take-append-drop, drop_more, take_more}
+use Rattle.std.proofs.lemmas.List.{get_or_append_left, get_or_push, length-take-le, length_push, take-append-drop, drop_more}
 use Rattle.std.proofs.lemmas.List.Sums.{fold-append, fold_push}
 use Rattle.std.proofs.lemmas.Option.{slice_get_within, get_or_from_slice_get}
 use Rattle.aq_set_read.specs.Tables.{table, at_position}
@@ -22,7 +22,7 @@ length-grown step done (x ∷ xs) =
     let one = length_push done (step done x) in
     omega arith
 
-get_or-grown : {A : Type 0} (step : List A → Expr → A) (done : List A) (exprs : List Expr) (i : ℕ) (d : A) → i < length done → get_or (grown step done exprs) i d ≡ get_or done i d
+pub get_or-grown : {A : Type 0} (step : List A → Expr → A) (done : List A) (exprs : List Expr) (i : ℕ) (d : A) → i < length done → get_or (grown step done exprs) i d ≡ get_or done i d
 get_or-grown step done [] i d h = refl
 get_or-grown step done (x ∷ xs) i d h =
     let one = length_push done (step done x) in

@@ -1,5 +1,5 @@
 -- What the items of a set file mean, in the order of the text: inner parts before outer ones, left ones before right ones.
-use Rattle.std.specs.Prelude.{ℕ, suc, ◌+◌, ◌*◌, ◌-◌, ◌^◌, ◌==◌, Bool, true, false, not, ◌||◌, List, [], ◌∷◌, ◌++◌, map, length, Option, Some, None, Ok, Err, nat_lt, take, drop, if◌then◌else◌}
+use Rattle.std.specs.Prelude.{ℕ, suc, ◌+◌, ◌*◌, ◌-◌, ◌==◌, Bool, false, not, ◌||◌, List, [], ◌∷◌, ◌++◌, map, length, Option, Some, None, Ok, Err, nat_lt, take, drop}
 use Rattle.std.specs.List.{list_any, fold}
 use Rattle.std.specs.Option.{is_some}
 use Rattle.aq_lex.specs.declared.place.Place.{Place}
@@ -60,9 +60,13 @@ digits_of text = take (length text - 2) (drop 1 text)
 abbrev pub ket_length : SetTerm → ℕ
 ket_length t = length (digits_of t.ket.text)
 
+-- the byte of a binary digit: `1` is one, and any other zero
+abbrev pub digit : ℕ → ℕ
+digit b = if b == 49 then 1 else 0
+
 -- the number of binary digits, which are bytes
 abbrev pub binary : List ℕ → ℕ
-binary digits = fold (λ n b. 2 * n + (b - 48)) 0 digits
+binary digits = fold (λ n b. 2 * n + digit b) 0 digits
 
 abbrev pub index_of : SetTerm → ℕ
 index_of t = binary (digits_of t.ket.text)
@@ -99,11 +103,11 @@ abbrev pub bracket_qubits : List SetTerm → ℕ
 bracket_qubits [] = 0
 bracket_qubits (t ∷ ts) = ket_length t
 
--- a bracket is a node behind its terms
+-- a bracket is a node behind its terms; a text's has a term, and a ket has a digit
 unfoldable pub bracket_made : Place → List SetTerm → Gathered → Checked (Step Made)
 bracket_made at terms g =
     terms_taken (bracket_qubits terms) [] terms g >>= λ s.
-    node at false (expr.Kets (bracket_qubits terms) s.value) (bracket_qubits terms) s.gathered
+    node at (out_of_range (bracket_qubits terms)) (expr.Kets (bracket_qubits terms) s.value) (bracket_qubits terms) s.gathered
 
 -- ---- the other expressions
 
@@ -193,9 +197,10 @@ abbrev pub same_qubits : ℕ → List SetCase → List Made → Checked (Unit {0
 same_qubits n (c ∷ cs) (m ∷ ms) = refuse_if (not (m.qubits == n)) (faults.QubitCount c.at) >> same_qubits n cs ms
 same_qubits n cs ms = Ok tt
 
-abbrev pub first_qubits : List Made → ℕ
-first_qubits [] = 0
-first_qubits (m ∷ ms) = m.qubits
+-- the qubits of the first; a tree's claim has at least one case
+abbrev pub first_qubits : List Made → Checked ℕ
+first_qubits [] = Err faults.Memory
+first_qubits (m ∷ ms) = Ok m.qubits
 
 abbrev pub cases_of : List SetCase → List Made → List Case
 cases_of (c ∷ cs) (m ∷ ms) = case_of c m ∷ cases_of cs ms
@@ -230,7 +235,8 @@ item_taken (items.Set name e) g = naming name g >> (meaning e g >>= λ s. Ok (wi
 item_taken (items.Claim name cases) g =
     naming name g
     >> (cases_made [] cases g >>= λ s.
-    same_qubits (first_qubits s.value) cases s.value
+    first_qubits s.value >>= λ n.
+    same_qubits n cases s.value
     >> Ok (with_claim name.text (cases_of cases s.value) s.gathered))
 
 abbrev pub items_taken : List SetItem → Gathered → Checked Gathered

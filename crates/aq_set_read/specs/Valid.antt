@@ -1,10 +1,9 @@
 -- When the sets of a file are valid: what they name is there, and their qubits agree.
-use Rattle.std.specs.Prelude.{◌≡◌, ℕ, ◌^◌, ◌<◌, ◌≤◌, ◌++◌, List, [], ◌∷◌, All, length, map, nat_eq, slice_get, Some}
+use Rattle.std.specs.Prelude.{◌≡◌, ℕ, ◌^◌, ◌<◌, ◌≤◌, ◌++◌, List, All, length, map, nat_eq, slice_get, Some}
 use Rattle.std.specs.List.{IsDistinct}
 use Rattle.std.specs.Str.{bytes_eq}
 use Rattle.aq_set_read.specs.Gathered.{most_qubits}
 use Rattle.aq_set_read.specs.Sizes.{size_of}
-use Rattle.aq_set_read.specs.declared.sets.Term.{Term}
 use Rattle.aq_set_read.specs.declared.sets.Expr.{Expr}
 use Rattle.aq_set_read.specs.declared.sets.Expr.TheVariants as expr
 use Rattle.aq_set_read.specs.declared.sets.NamedClaim.{NamedClaim}

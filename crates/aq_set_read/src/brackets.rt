@@ -9,6 +9,7 @@ use crate::amplitudes::amplitude_of;
 use crate::collector::Collector;
 use crate::kets::{binary, digits_of};
 use crate::made::Made;
+use crate::operators::qubits_within;
 use crate::set_fault::SetFault;
 use crate::sets::{Expr, Term};
 use crate::tree::{SetCoef, SetTerm};
@@ -175,8 +176,10 @@ pub(crate) fn bracket(
     ensures meaning { Gives (λ m. step collector.new m) result (bracket_made at terms.now collector.old) }
     ensures names { collector.new.names ≡ collector.old.names }
 {
-    let qubits = bracket_qubits(terms);
-    let terms = take_terms(alloc, collector, qubits, terms)?;
-    let qubits = qubits as u32;
+    let count = bracket_qubits(terms);
+    let terms = take_terms(alloc, collector, count, terms)?;
+    let Some(qubits) = qubits_within(count as u128) else {
+        return Err(SetFault::QubitCount { at });
+    };
     collector.node(at, Expr::Kets { qubits, terms }, qubits)
 }

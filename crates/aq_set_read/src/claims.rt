@@ -51,21 +51,20 @@ pub(crate) fn cases_made(
     Ok(made)
 }
 
-/// On how many qubits the first one is.
-fn first_qubits(made: &[Made]) -> u32
-    ensures { result ≡ first_qubits made.now }
+/// On how many qubits the first one is. There is at least one.
+pub(crate) fn first_qubits(made: &[Made]) -> Result<u32, SetFault>
+    ensures { Gives (λ n. n) result (first_qubits made.now) }
 {
     match made.first() {
-        Some(first) => first.qubits,
-        None => 0,
+        Some(first) => Ok(first.qubits),
+        None => Err(SetFault::Memory),
     }
 }
 
-/// Whether the cases are on as many qubits as the first one.
-pub(crate) fn same_qubits(cases: &[SetCase], made: &[Made]) -> Result<(), SetFault>
-    ensures { Gives (λ u. u) result (same_qubits (first_qubits made.now) cases.now made.now) }
+/// Whether the cases are on so many qubits.
+pub(crate) fn same_qubits(qubits: u32, cases: &[SetCase], made: &[Made]) -> Result<(), SetFault>
+    ensures { Gives (λ u. u) result (same_qubits qubits cases.now made.now) }
 {
-    let qubits = first_qubits(made);
     for (i, case) in cases.iter().enumerate() {
         let Some(next) = made.get(i) else {
             return Ok(());

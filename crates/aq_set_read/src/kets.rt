@@ -19,7 +19,7 @@ pub(crate) fn binary(digits: &[u8]) -> u64
 {
     let mut number = 0;
     for digit in digits {
-        number = 2 * number + u64::from(digit.saturating_sub(b'0'));
+        number = 2 * number + u64::from(*digit == b'1');
     }
     number
 }

@@ -7,6 +7,12 @@ ghost use Rattle.aq_set_read.specs.SetGrammar.{IsFile};
 ghost use Rattle.aq_set_read.specs.Verdict.{IsFault};
 ghost use Rattle.aq_set_read.specs.declared.reader.Fault.{Fault};
 ghost use Rattle.aq_set_read.specs.declared.tree.SetTree.{SetTree};
+ghost use Rattle.aq_set_read.specs.Meaning.{sets_of};
+ghost use Rattle.aq_set_read.specs.Texts.{SaysSets, SetFaultOf};
+ghost use Rattle.aq_set_read.specs.Valid.{IsValidSets};
+ghost use Rattle.aq_set_read.specs.declared.sets.Sets.{Sets};
+ghost use Rattle.aq_set_read.specs.declared.set_fault.SetFault.{SetFault};
+ghost use Rattle.aq_set_read.specs.declared.set_fault.SetFault.TheVariants as faults;
 
 /// A set file has one cut, and so it says one thing. Each token's span has the bytes that were cut.
 pub fn set_cuts()
@@ -24,4 +30,17 @@ pub fn set_trees()
     ensures fault { (deep : ℕ) (ts r s : List SetPiece) (k l : Fault) → IsFault deep ts k r → IsFault deep ts l s → (k ≡ l) × (r ≡ s) }
     // One of them.
     ensures some { (deep : ℕ) (ts : List SetPiece) → ((tree : SetTree) × IsFile deep tree ts) ⊎ ((k : Fault) × (rest : List SetPiece) × IsFault deep ts k rest) }
+{}
+
+/// What holds of the text of a set file: it says one thing. It does nothing.
+pub fn set_files()
+    // At most one list of sets and claims.
+    ensures sets { (text : List ℕ) (a b : Sets) → SaysSets text a → SaysSets text b → a ≡ b }
+    // At most one first fault, but for want of memory.
+    ensures fault { (text : List ℕ) (e f : SetFault) → SetFaultOf text e → SetFaultOf text f → (e ≡ faults.Memory → ⊥) → (f ≡ faults.Memory → ⊥) → e ≡ f }
+    // Not both.
+    ensures apart { (text : List ℕ) (sets : Sets) (f : SetFault) → SaysSets text sets → SetFaultOf text f → (f ≡ faults.Memory → ⊥) → ⊥ }
+    // What it says is valid, as is what any tree means.
+    ensures valid { (text : List ℕ) (sets : Sets) → SaysSets text sets → IsValidSets sets }
+    ensures meaning { (tree : SetTree) (sets : Sets) → sets_of tree ≡ Ok sets → IsValidSets sets }
 {}

@@ -41,7 +41,7 @@ mod tree_tests;
 mod words;
 
 pub use fault::SetLexFault;
-pub use laws::{set_cuts, set_trees};
+pub use laws::{set_cuts, set_files, set_trees};
 pub use lexer::tokens_of_sets;
 pub use list::SetTokens;
 pub use parse_fault::SetParseFault;

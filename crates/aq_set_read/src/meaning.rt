@@ -4,7 +4,7 @@ ghost use Rattle.aq_set_read.specs.Gathered.{Gives, nothing_gathered};
 ghost use Rattle.aq_set_read.specs.Meaning.{item_taken, items_taken, sets_of};
 ghost use Rattle.aq_set_read.specs.declared.tree.SetItem.TheVariants as items;
 
-use crate::claims::{cases_made, cases_of, same_qubits};
+use crate::claims::{cases_made, cases_of, first_qubits, same_qubits};
 use crate::collector::Collector;
 use crate::make_exprs::make_expr;
 use crate::set_fault::SetFault;
@@ -37,7 +37,8 @@ fn claim(
 {
     collector.naming(name)?;
     let made = cases_made(alloc, collector, cases)?;
-    same_qubits(cases, made.as_slice())?;
+    let qubits = first_qubits(made.as_slice())?;
+    same_qubits(qubits, cases, made.as_slice())?;
     let cases = cases_of(alloc, cases, made.as_slice())?;
     collector.add_claim(alloc, &name.text, cases)
 }

@@ -11,7 +11,7 @@ use crate::tree::SetPower;
 use aq_lex::Place;
 
 /// The number of qubits, from 1 to 16. None exactly where it is out of this range.
-fn qubits_within(number: u128) -> Option<u32>
+pub(crate) fn qubits_within(number: u128) -> Option<u32>
     ensures { MatchOption result (out_of_range number ≡ true) (λ n. (out_of_range number ≡ false) × (n ≡ number)) }
 {
     if number == 0 || number > 16 {

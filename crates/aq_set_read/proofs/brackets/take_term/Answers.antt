@@ -1,4 +1,4 @@
-use Rattle.std.proofs.Common.{◌≡◌, ◌≤◌, sym, ◌∙◌, ap, length, arith, rules, tests}
+use Rattle.std.proofs.Common.{◌≡◌, ◌≤◌, sym, ◌∙◌, ap, length, rules, tests}
 use Rattle.aq_set_read.specs.Meaning.{digits_of}
 use Rattle.aq_set_read.proofs.BracketLaws.{term_goes_on}
 use Rattle.aq_set_read.proofs.brackets.take_term.Goals as goal

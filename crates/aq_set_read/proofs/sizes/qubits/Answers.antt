@@ -1,4 +1,4 @@
-use Rattle.std.proofs.Common.{◌≡◌, ◌∙◌, ap, List, ℕ}
+use Rattle.std.proofs.Common.{◌∙◌, ap, List, ℕ}
 use Rattle.aq_set_read.specs.Tables.{at_position}
 use Rattle.aq_set_read.proofs.QubitLaws.{at_size}
 use Rattle.aq_set_read.proofs.sizes.qubits.Goals as goal

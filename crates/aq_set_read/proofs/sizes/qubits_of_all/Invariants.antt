@@ -1,4 +1,4 @@
-use Rattle.std.proofs.Common.{◌≡◌, map, take}
+use Rattle.std.proofs.Common.{◌≡◌, take}
 use Rattle.aq_set_read.specs.Tables.{table}
 use Rattle.aq_set_read.specs.Sizes.{size_step}
 use Rattle.aq_set_read.proofs.QubitLaws.{qubits_in}

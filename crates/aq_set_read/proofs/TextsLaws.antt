@@ -1,0 +1,205 @@
+-- A text of a set file says one thing: its sets, which are valid, or its first fault.
+use Rattle.std.proofs.Common.{◌≡◌, ℕ, ◌<◌, ◌≤◌, List, length, Result, Ok, Err, IfOk, IfErr, refl, ap, ap₂, sym, subst, ◌∙◌, take, nat_lt, Bool, true, false, arith}
+use Rattle.std.specs.Prelude.{IsUtf8}
+use Rattle.std.specs.Str.{IsValidUpTo}
+use Rattle.std.proofs.lemmas.Bool.{ltb-true, ltb-false}
+use Rattle.std.proofs.lemmas.List.{take_all}
+use Rattle.aq_grammar.specs.Words.{first}
+use Rattle.aq_lex.specs.Places.{place_after}
+use Rattle.aq_set_read.specs.Cuts.{Reads}
+use Rattle.aq_set_read.specs.Told as lex
+use Rattle.aq_set_read.specs.Piece.{SetPiece}
+use Rattle.aq_set_read.specs.Pieces.{pieces}
+use Rattle.aq_set_read.specs.Tokens.{place_of}
+use Rattle.aq_set_read.specs.SetGrammar.{IsFile}
+use Rattle.aq_set_read.specs.Verdict.{IsFault, text_of, TreeFault}
+use Rattle.aq_set_read.specs.Gathered.{Gives}
+use Rattle.aq_set_read.specs.Meaning.{sets_of}
+use Rattle.aq_set_read.specs.Valid.{IsValidSets}
+use Rattle.aq_set_read.specs.Texts.{most_deep, HasSetTree, SaysSets, HasTreeFault, HasItemFault, SetFaultOf}
+use Rattle.aq_set_read.specs.declared.token.SetToken.{SetToken}
+use Rattle.aq_set_read.specs.declared.tree.SetTree.{SetTree}
+use Rattle.aq_set_read.specs.declared.sets.Sets.{Sets}
+use Rattle.aq_set_read.specs.declared.fault.SetLexFault.{SetLexFault}
+use Rattle.aq_set_read.specs.declared.fault.SetLexFault.TheVariants as lexed
+use Rattle.aq_set_read.specs.declared.parse_fault.SetParseFault.{SetParseFault}
+use Rattle.aq_set_read.specs.declared.parse_fault.SetParseFault.TheVariants as parsed
+use Rattle.aq_set_read.specs.declared.reader.Fault.{Fault}
+use Rattle.aq_set_read.specs.declared.reader.Fault.TheVariants as kinds
+use Rattle.aq_set_read.specs.declared.set_fault.SetFault.{SetFault}
+use Rattle.aq_set_read.specs.declared.set_fault.SetFault.TheVariants as faults
+use Rattle.aq_set_read.proofs.CutLaws.{one_reading}
+use Rattle.aq_set_read.proofs.Judged.{one_tree, one_fault}
+use Rattle.aq_set_read.proofs.ValidChecks.{Judged}
+use Rattle.aq_set_read.proofs.ValidItems.{sets_of-valid}
+
+-- ---- what the meaning of a tree gives
+
+pub tree-valid : (tree : SetTree) (s : Sets) → sets_of tree ≡ Ok s → IsValidSets s
+tree-valid tree s e = subst (Judged IsValidSets) e (sets_of-valid tree)
+
+pub text-valid : (text : List ℕ) (s : Sets) → SaysSets text s → IsValidSets s
+text-valid text s says = tree-valid says.tree s says.meaning
+
+pub valid_given : (r : Result Sets SetFault) (tree : SetTree) → Gives (λ (s : Sets). s) r (sets_of tree) → IfOk r IsValidSets
+valid_given (Ok s) tree e = tree-valid tree s e
+valid_given (Err f) tree h = tt
+
+module _ (text : List ℕ) (tree : SetTree) (has : HasSetTree text tree) where
+  -- the meaning of a tree has no fault of bytes, tokens or the grammar
+  abbrev Told : SetFault → Type 0
+  Told f = (f ≡ faults.Memory → ⊥) → sets_of tree ≡ Err f
+
+  judged : (f : SetFault) → Told f → (f ≡ faults.Memory → ⊥) → Judged IsValidSets (Err f)
+  judged f told not = subst (Judged IsValidSets) (told not) (sets_of-valid tree)
+
+  item : (f : SetFault) → Told f → (f ≡ faults.Memory → ⊥) → HasItemFault text f
+  item f told not = record { tree = tree; has_tree = has; meaning = told not }
+
+  fault_told : (f : SetFault) → Told f → SetFaultOf text f
+  fault_told (faults.NotUtf8 at) h = absurd (judged (faults.NotUtf8 at) h (λ e. cc))
+  fault_told (faults.BadByte at byte) h = absurd (judged (faults.BadByte at byte) h (λ e. cc))
+  fault_told (faults.OpenComment at) h = absurd (judged (faults.OpenComment at) h (λ e. cc))
+  fault_told (faults.LongNumber at) h = absurd (judged (faults.LongNumber at) h (λ e. cc))
+  fault_told (faults.BadKet at) h = absurd (judged (faults.BadKet at) h (λ e. cc))
+  fault_told (faults.Unexpected at token) h = absurd (judged (faults.Unexpected at token) h (λ e. cc))
+  fault_told (faults.TooDeep at) h = absurd (judged (faults.TooDeep at) h (λ e. cc))
+  fault_told (faults.TooManyNames at) h = item (faults.TooManyNames at) h (λ e. cc)
+  fault_told (faults.TwiceNamed at) h = item (faults.TwiceNamed at) h (λ e. cc)
+  fault_told (faults.UnknownSet at) h = item (faults.UnknownSet at) h (λ e. cc)
+  fault_told (faults.QubitCount at) h = item (faults.QubitCount at) h (λ e. cc)
+  fault_told (faults.AmpTooWide at) h = item (faults.AmpTooWide at) h (λ e. cc)
+  fault_told (faults.KetLength at) h = item (faults.KetLength at) h (λ e. cc)
+  fault_told (faults.RepeatedKet at) h = item (faults.RepeatedKet at) h (λ e. cc)
+  fault_told (faults.TooManyNodes at) h = item (faults.TooManyNodes at) h (λ e. cc)
+  fault_told faults.Memory h = tt
+
+pub fault_given : (r : Result Sets SetFault) (text : List ℕ) (tree : SetTree) → HasSetTree text tree → Gives (λ (s : Sets). s) r (sets_of tree) → IfErr r (SetFaultOf text)
+fault_given (Ok s) text tree has h = tt
+fault_given (Err f) text tree has h = fault_told text tree has f h
+
+-- ---- one tree, one list of sets
+
+ok_is : {A E : Type 0} (x y : A) → ◌≡◌ {A = Result A E} (Ok x) (Ok y) → x ≡ y
+ok_is x y e = cc
+
+err_is : {A E : Type 0} (x y : E) → ◌≡◌ {A = Result A E} (Err x) (Err y) → x ≡ y
+err_is x y e = cc
+
+ok_no_err : {A E : Type 0} (x : A) (y : E) → ◌≡◌ {A = Result A E} (Ok x) (Err y) → ⊥
+ok_no_err x y e = cc
+
+one_tokens : (text : List ℕ) (ts us : List SetToken) → Reads text (Ok ts) → Reads text (Ok us) → ts ≡ us
+one_tokens text ts us h k = ok_is {E = SetLexFault} ts us (one_reading text (Ok ts) (Ok us) h k)
+
+no_tokens : (text : List ℕ) (ts : List SetToken) (l : SetLexFault) → Reads text (Ok ts) → Reads text (Err l) → ⊥
+no_tokens text ts l h k = ok_no_err ts l (one_reading text (Ok ts) (Err l) h k)
+
+abbrev pieces_in : List ℕ → List SetToken → List SetPiece
+pieces_in text ts = pieces (record { source = text; list = ts })
+
+one_tree_of_text : (text : List ℕ) (x y : SetTree) → HasSetTree text x → HasSetTree text y → x ≡ y
+one_tree_of_text text x y h k =
+    let same = one_tokens text h.tokens k.tokens h.cut k.cut in
+    one_tree most_deep most_deep x y (pieces_in text k.tokens) (subst (λ (ts : List SetToken). IsFile most_deep x (pieces_in text ts)) same h.grammar) k.grammar
+
+pub one_sets : (text : List ℕ) (a b : Sets) → SaysSets text a → SaysSets text b → a ≡ b
+one_sets text a b s t = ok_is {E = SetFault} a b (sym s.meaning ∙ ap sets_of (one_tree_of_text text s.tree t.tree s.has_tree t.has_tree) ∙ t.meaning)
+
+-- ---- one fault
+
+abbrev told_tokens : SetLexFault → SetFault
+told_tokens (lexed.NotUtf8 at) = faults.NotUtf8 at
+told_tokens (lexed.BadByte at byte) = faults.BadByte at byte
+told_tokens (lexed.OpenComment at) = faults.OpenComment at
+told_tokens (lexed.LongNumber at) = faults.LongNumber at
+told_tokens (lexed.BadKet at) = faults.BadKet at
+told_tokens lexed.Memory = faults.Memory
+
+abbrev told_tree : Fault → List SetPiece → SetFault
+told_tree kinds.Unexpected rest = faults.Unexpected (place_of (first rest)) (text_of (first rest))
+told_tree kinds.TooDeep rest = faults.TooDeep (place_of (first rest))
+
+-- why a text has a fault
+data Because (text : List ℕ) (f : SetFault) : Type 0 where
+  of_bytes : (n : ℕ) → IsValidUpTo text n → f ≡ faults.NotUtf8 (place_after (take n text)) → Because text f
+  of_tokens : (l : SetLexFault) → Reads text (Err l) → f ≡ told_tokens l → Because text f
+  of_tree : (ts : List SetToken) → Reads text (Ok ts) → (k : Fault) (rest : List SetPiece) → IsFault most_deep (pieces_in text ts) k rest → f ≡ told_tree k rest → Because text f
+  of_items : HasItemFault text f → Because text f
+  of_memory : f ≡ faults.Memory → Because text f
+
+because : (text : List ℕ) (f : SetFault) → SetFaultOf text f → Because text f
+because text (faults.NotUtf8 at) h = Because.of_bytes h.0 h.1 (ap faults.NotUtf8 h.2)
+because text (faults.BadByte at byte) h = Because.of_tokens (lexed.BadByte at byte) h refl
+because text (faults.OpenComment at) h = Because.of_tokens (lexed.OpenComment at) h refl
+because text (faults.LongNumber at) h = Because.of_tokens (lexed.LongNumber at) h refl
+because text (faults.BadKet at) h = Because.of_tokens (lexed.BadKet at) h refl
+because text (faults.Unexpected at token) h = Because.of_tree h.tokens h.cut kinds.Unexpected h.first.0 h.first.1 (ap₂ faults.Unexpected h.first.2 h.first.3)
+because text (faults.TooDeep at) h = Because.of_tree h.tokens h.cut kinds.TooDeep h.first.0 h.first.1 (ap faults.TooDeep h.first.2)
+because text (faults.TooManyNames at) h = Because.of_items h
+because text (faults.TwiceNamed at) h = Because.of_items h
+because text (faults.UnknownSet at) h = Because.of_items h
+because text (faults.QubitCount at) h = Because.of_items h
+because text (faults.AmpTooWide at) h = Because.of_items h
+because text (faults.KetLength at) h = Because.of_items h
+because text (faults.RepeatedKet at) h = Because.of_items h
+because text (faults.TooManyNodes at) h = Because.of_items h
+because text faults.Memory h = Because.of_memory refl
+
+no_utf8 : (text : List ℕ) (n : ℕ) → IsValidUpTo text n → IsUtf8 text → ⊥
+no_utf8 text n h u = h.longest (length text) h.short (subst IsUtf8 (sym (take_all (length text) text (omega arith))) u)
+
+-- the front that is valid is the longest
+one_front : (text : List ℕ) (n m : ℕ) → IsValidUpTo text n → IsValidUpTo text m → n ≡ m
+one_front text n m h k = by (nat_lt n m) (nat_lt m n) refl refl
+  where
+    by : (b c : Bool) → nat_lt n m ≡ b → nat_lt m n ≡ c → n ≡ m
+    by true c e f = absurd (h.longest m (ltb-true n m e) k.front)
+    by false true e f = absurd (k.longest n (ltb-true m n f) h.front)
+    by false false e f = let le = ltb-false n m e in let ge = ltb-false m n f in omega (arith, le, ge)
+
+no_tree_here : (text : List ℕ) (ts : List SetToken) (k : Fault) (rest : List SetPiece) (tree : SetTree) → Reads text (Ok ts) → IsFault most_deep (pieces_in text ts) k rest → HasSetTree text tree → ⊥
+no_tree_here text ts k rest tree cut fault has =
+    let same = one_tokens text has.tokens ts has.cut cut in
+    fault.no_tree tree (subst (λ (us : List SetToken). IsFile most_deep tree (pieces_in text us)) same has.grammar)
+
+no_fault_of_tree : (text : List ℕ) (tree : SetTree) (f : SetFault) → HasSetTree text tree → Because text f → ((f ≡ faults.Memory) → ⊥) → HasItemFault text f
+no_fault_of_tree text tree f has (Because.of_bytes n h e) not = absurd (no_utf8 text n h has.cut.0)
+no_fault_of_tree text tree f has (Because.of_tokens l h e) not = absurd (no_tokens text has.tokens l has.cut h)
+no_fault_of_tree text tree f has (Because.of_tree ts cut k rest h e) not = absurd (no_tree_here text ts k rest tree cut h has)
+no_fault_of_tree text tree f has (Because.of_items h) not = h
+no_fault_of_tree text tree f has (Because.of_memory e) not = absurd (not e)
+
+no_item_fault : (text : List ℕ) (sets : Sets) (f : SetFault) → SaysSets text sets → HasItemFault text f → ⊥
+no_item_fault text sets f says h = ok_no_err sets f (sym says.meaning ∙ ap sets_of (one_tree_of_text text says.tree h.tree says.has_tree h.has_tree) ∙ h.meaning)
+
+pub no_fault : (text : List ℕ) (sets : Sets) (f : SetFault) → SaysSets text sets → SetFaultOf text f → ((f ≡ faults.Memory) → ⊥) → ⊥
+no_fault text sets f says h not = no_item_fault text sets f says (no_fault_of_tree text says.tree f says.has_tree (because text f h) not)
+
+one_item_fault : (text : List ℕ) (e f : SetFault) → HasItemFault text e → HasItemFault text f → e ≡ f
+one_item_fault text e f h k = err_is {A = Sets} e f (sym h.meaning ∙ ap sets_of (one_tree_of_text text h.tree k.tree h.has_tree k.has_tree) ∙ k.meaning)
+
+one_tree_fault : (text : List ℕ) (ts us : List SetToken) (k l : Fault) (r s : List SetPiece) → Reads text (Ok ts) → Reads text (Ok us) → IsFault most_deep (pieces_in text ts) k r → IsFault most_deep (pieces_in text us) l s → told_tree k r ≡ told_tree l s
+one_tree_fault text ts us k l r s cut again h i =
+    let same = one_tokens text ts us cut again in
+    let both = one_fault most_deep (pieces_in text us) r s k l (subst (λ (vs : List SetToken). IsFault most_deep (pieces_in text vs) k r) same h) i in
+    ap₂ told_tree both.0 both.1
+
+module _ (text : List ℕ) (e f : SetFault) where
+  one_because : Because text e → Because text f → (e ≡ faults.Memory → ⊥) → (f ≡ faults.Memory → ⊥) → e ≡ f
+  one_because (Because.of_memory z) because not nor = absurd (not z)
+  one_because because (Because.of_memory z) not nor = absurd (nor z)
+  one_because (Because.of_items h) because not nor = one_item_fault text e f h (no_fault_of_tree text h.tree f h.has_tree because nor)
+  one_because because (Because.of_items h) not nor = one_item_fault text e f (no_fault_of_tree text h.tree e h.has_tree because not) h
+  one_because (Because.of_bytes n h z) (Because.of_bytes m i y) not nor = z ∙ ap (λ (j : ℕ). faults.NotUtf8 (place_after (take j text))) (one_front text n m h i) ∙ sym y
+  one_because (Because.of_bytes n h z) (Because.of_tokens l i y) not nor = absurd (no_utf8 text n h i.0)
+  one_because (Because.of_bytes n h z) (Because.of_tree ts cut k rest i y) not nor = absurd (no_utf8 text n h cut.0)
+  one_because (Because.of_tokens l i y) (Because.of_bytes n h z) not nor = absurd (no_utf8 text n h i.0)
+  one_because (Because.of_tokens l h z) (Because.of_tokens m i y) not nor = z ∙ ap told_tokens (err_is {A = List SetToken} l m (one_reading text (Err l) (Err m) h i)) ∙ sym y
+  one_because (Because.of_tokens l h z) (Because.of_tree ts cut k rest i y) not nor = absurd (no_tokens text ts l cut h)
+  one_because (Because.of_tree ts cut k rest i y) (Because.of_bytes n h z) not nor = absurd (no_utf8 text n h cut.0)
+  one_because (Because.of_tree ts cut k rest i y) (Because.of_tokens l h z) not nor = absurd (no_tokens text ts l cut h)
+  one_because (Because.of_tree ts cut k r h z) (Because.of_tree us again l s i y) not nor = z ∙ one_tree_fault text ts us k l r s cut again h i ∙ sym y
+
+pub one_fault_of_text : (text : List ℕ) (e f : SetFault) → SetFaultOf text e → SetFaultOf text f → (e ≡ faults.Memory → ⊥) → (f ≡ faults.Memory → ⊥) → e ≡ f
+one_fault_of_text text e f h k = one_because text e f (because text e h) (because text f k)
