@@ -1,2 +1,5 @@
 pub mod Bodies
+pub mod Counting
+pub mod Finding
+pub mod Met
 pub mod Owed

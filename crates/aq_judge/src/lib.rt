@@ -1,6 +1,17 @@
-//! The judge of a program of gates, over plain lists of vectors.
+//! The judge of a program of gates, over plain lists of vectors: whether each run from a vector of the precondition ends in
+//! a nonzero multiple of a vector of the postcondition.
+//!
+//! The definitions are in `specs/`: `Owed` has what is asked and what is owed, `Finding` what is found of runs, and `Met`
+//! and `Counting` what the parts of the judge give.
 #![tactic(auto)]
 
-mod judge;
+mod body;
+mod compare;
+mod met;
+mod runs;
+mod steps;
+mod stop;
+mod verdict;
 
-pub use judge::decide;
+pub use body::are_gates;
+pub use verdict::judge;

@@ -1,6 +1,7 @@
 pub mod GatesAloneProofs
 pub mod GatesOnlyProofs
-pub mod ZeroBits
-pub mod QubitLaws
-pub mod TableLaws
-pub mod BoundLaws
+mod ZeroBits
+mod TableLaws
+mod QubitLaws
+mod BoundLaws
+mod ExampleLaws

@@ -1,0 +1,19 @@
+-- Bits that guards name.
+use Rattle.std.specs.Prelude.{ℕ, ◌==◌, ◌||◌, Bool, List}
+use Rattle.std.specs.List.{list_any}
+use Rattle.aq_prog.specs.declared.stmt.Guard.{Guard}
+use Rattle.aq_prog.specs.declared.stmt.Stmt.{Stmt, fold-Stmt}
+use Rattle.aq_obligations.specs.Enough.{guards_step, guards, conditions}
+use Rattle.aq_obligations.specs.declared.bound.BoundCase.{BoundCase}
+
+-- one of the guards is on the bit
+abbrev pub is_named : ℕ → List Guard → Bool
+is_named bit guards = list_any (λ g. g.bit == bit) guards
+
+-- the guards of a statement and of those inside
+abbrev pub guards_of : Stmt → List Guard
+guards_of = fold-Stmt (List Guard) guards_step
+
+-- a guard of the body or a condition of the cases is
+abbrev pub is_named_in : ℕ → List Stmt → List BoundCase → List BoundCase → Bool
+is_named_in bit body before after = is_named bit (guards body) || (is_named bit (conditions before) || is_named bit (conditions after))
