@@ -15,7 +15,7 @@ use Rattle.aq_judge.specs.Bodies.{are_gates, gates_in}
 use Rattle.aq_top.specs.Faults.{is_memory, refused_or_memory}
 use Rattle.aq_top.specs.SetFaults.{is_set_memory, is_claim_memory}
 use Rattle.aq_top.proofs.SetsLemmas.{one_sets}
-use Rattle.aq_top.proofs.StmtLemmas.{body_is}
+use Rattle.aq_judge.proofs.StmtLaws.{body_is}
 use Rattle.aq_top.specs.Clauses.{IsAnswer, Reports, Ends, ToldIsCorrect, ReadsFailed}
 use Rattle.aq_top.specs.Ends.{MayHold, ReadsTask, HasCause, stop_text, stop_status, verdict_status, post_report, IsEndText, EndsAs}
 use Rattle.aq_top.specs.Lines.{usage_text}

@@ -1,4 +1,3 @@
 pub mod SayLemmas
 pub mod EndsLemmas
-pub mod StmtLemmas
 pub mod SetsLemmas

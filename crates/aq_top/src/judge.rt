@@ -7,7 +7,6 @@ ghost use Rattle.aq_report.specs.Verdicts.{IsJustified};
 ghost use Rattle.aq_top.specs.Tasks.{most_steps, task_of, enough_for, obligation_of};
 
 use crate::load::Loaded;
-use aq_judge::decide;
 use aq_report::Verdict;
 use std::alloc::Global;
 
@@ -23,7 +22,7 @@ pub(crate) fn judge(alloc: Global, loaded: &Loaded) -> Verdict
     requires after { All (IsBoundCase loaded.now.program loaded.now.sets) loaded.now.claims.after }
     ensures { IsJustified most_steps (enough_for (task_of loaded.now.program loaded.now.sets loaded.now.claims)) (obligation_of (task_of loaded.now.program loaded.now.sets loaded.now.claims)) result }
 {
-    decide(
+    aq_judge::judge(
         alloc,
         &loaded.program,
         &loaded.sets,

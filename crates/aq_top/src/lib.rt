@@ -1,7 +1,6 @@
 //! The top call: it does what the words say, over a shelf of files and a sink for the output.
 #![tactic(auto)]
 
-mod body;
 mod honest;
 mod judge;
 mod load;

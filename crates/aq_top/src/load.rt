@@ -7,8 +7,8 @@ ghost use Rattle.aq_top.specs.Ends.{ReadFailedOf, ReadsProgram, ReadsSets, Reads
 ghost use Rattle.aq_top.specs.Tasks.{claims_asked, task_of};
 ghost use Rattle.aq_top.specs.Words.{files};
 
-use crate::body::are_gates;
 use crate::program::{ProgramFault, read_program};
+use aq_judge::are_gates;
 use aq_obligations::{AskedClaims, ClaimFault, ask};
 use aq_prog::Program;
 use aq_set_read::{SetFault, Sets, read_sets};
