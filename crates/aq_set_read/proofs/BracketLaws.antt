@@ -1,9 +1,9 @@
 -- Terms of a bracket, and their indices.
-use Rattle.std.proofs.Common.{◌≡◌, ℕ, ◌≤◌, arith, tests, rules, Bool, true, false, not, ◌||◌, List, [], ◌∷◌, ◌++◌, map, nat_eq, nat_lt, ◌==◌, length, Ok, Err, refl, sym, ap, ◌∙◌}
+use Rattle.std.proofs.Common.{◌≡◌, ℕ, ◌≤◌, tests, rules, Bool, true, false, not, ◌||◌, List, [], ◌∷◌, ◌++◌, map, nat_eq, nat_lt, ◌==◌, length, Ok, Err, refl, sym, ap, ◌∙◌}
 use Rattle.std.specs.List.{list_any}
 use Rattle.aq_lex.specs.declared.place.Place.{Place}
 use Rattle.aq_set_read.specs.Gathered.{Gathered, ◌>>=◌, ◌>>◌, refuse_if, counted, most_qubits}
-use Rattle.aq_set_read.specs.Meaning.{Step, step, terms_taken, bracket_qubits, stands_in, digits_of, ket_length, binary, index_of, term_of, term_behind, term_taken, most_roots}
+use Rattle.aq_set_read.specs.Meaning.{step, stands_in, digits_of, ket_length, binary, index_of, term_of, term_behind, term_taken, most_roots}
 use Rattle.aq_set_read.specs.Parts.{term_added, term_counted, roots_taken}
 use Rattle.aq_set_read.specs.Coefs.{amplitude_of, roots_of}
 use Rattle.aq_set_read.specs.declared.tree.SetTerm.{SetTerm}

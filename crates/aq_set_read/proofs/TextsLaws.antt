@@ -1,5 +1,5 @@
 -- A text of a set file says one thing: its sets, which are valid, or its first fault.
-use Rattle.std.proofs.Common.{◌≡◌, ℕ, ◌<◌, ◌≤◌, List, length, Result, Ok, Err, IfOk, IfErr, refl, ap, ap₂, sym, subst, ◌∙◌, take, nat_lt, Bool, true, false, arith}
+use Rattle.std.proofs.Common.{◌≡◌, ℕ, List, length, Result, Ok, Err, IfOk, IfErr, refl, ap, ap₂, sym, subst, ◌∙◌, take, nat_lt, Bool, true, false, arith}
 use Rattle.std.specs.Prelude.{IsUtf8}
 use Rattle.std.specs.Str.{IsValidUpTo}
 use Rattle.std.proofs.lemmas.Bool.{ltb-true, ltb-false}
@@ -7,23 +7,20 @@ use Rattle.std.proofs.lemmas.List.{take_all}
 use Rattle.aq_grammar.specs.Words.{first}
 use Rattle.aq_lex.specs.Places.{place_after}
 use Rattle.aq_set_read.specs.Cuts.{Reads}
-use Rattle.aq_set_read.specs.Told as lex
 use Rattle.aq_set_read.specs.Piece.{SetPiece}
 use Rattle.aq_set_read.specs.Pieces.{pieces}
 use Rattle.aq_set_read.specs.Tokens.{place_of}
 use Rattle.aq_set_read.specs.SetGrammar.{IsFile}
-use Rattle.aq_set_read.specs.Verdict.{IsFault, text_of, TreeFault}
+use Rattle.aq_set_read.specs.Verdict.{IsFault, text_of}
 use Rattle.aq_set_read.specs.Gathered.{Gives}
 use Rattle.aq_set_read.specs.Meaning.{sets_of}
 use Rattle.aq_set_read.specs.Valid.{IsValidSets}
-use Rattle.aq_set_read.specs.Texts.{most_deep, HasSetTree, SaysSets, HasTreeFault, HasItemFault, SetFaultOf}
+use Rattle.aq_set_read.specs.Texts.{most_deep, HasSetTree, SaysSets, HasItemFault, SetFaultOf}
 use Rattle.aq_set_read.specs.declared.token.SetToken.{SetToken}
 use Rattle.aq_set_read.specs.declared.tree.SetTree.{SetTree}
 use Rattle.aq_set_read.specs.declared.sets.Sets.{Sets}
 use Rattle.aq_set_read.specs.declared.fault.SetLexFault.{SetLexFault}
 use Rattle.aq_set_read.specs.declared.fault.SetLexFault.TheVariants as lexed
-use Rattle.aq_set_read.specs.declared.parse_fault.SetParseFault.{SetParseFault}
-use Rattle.aq_set_read.specs.declared.parse_fault.SetParseFault.TheVariants as parsed
 use Rattle.aq_set_read.specs.declared.reader.Fault.{Fault}
 use Rattle.aq_set_read.specs.declared.reader.Fault.TheVariants as kinds
 use Rattle.aq_set_read.specs.declared.set_fault.SetFault.{SetFault}
@@ -187,10 +184,10 @@ one_tree_fault text ts us k l r s cut again h i =
 
 module _ (text : List ℕ) (e f : SetFault) where
   one_because : Because text e → Because text f → (e ≡ faults.Memory → ⊥) → (f ≡ faults.Memory → ⊥) → e ≡ f
-  one_because (Because.of_memory z) because not nor = absurd (not z)
-  one_because because (Because.of_memory z) not nor = absurd (nor z)
-  one_because (Because.of_items h) because not nor = one_item_fault text e f h (no_fault_of_tree text h.tree f h.has_tree because nor)
-  one_because because (Because.of_items h) not nor = one_item_fault text e f (no_fault_of_tree text h.tree e h.has_tree because not) h
+  one_because (Because.of_memory z) why not nor = absurd (not z)
+  one_because why (Because.of_memory z) not nor = absurd (nor z)
+  one_because (Because.of_items h) why not nor = one_item_fault text e f h (no_fault_of_tree text h.tree f h.has_tree why nor)
+  one_because why (Because.of_items h) not nor = one_item_fault text e f (no_fault_of_tree text h.tree e h.has_tree why not) h
   one_because (Because.of_bytes n h z) (Because.of_bytes m i y) not nor = z ∙ ap (λ (j : ℕ). faults.NotUtf8 (place_after (take j text))) (one_front text n m h i) ∙ sym y
   one_because (Because.of_bytes n h z) (Because.of_tokens l i y) not nor = absurd (no_utf8 text n h i.0)
   one_because (Because.of_bytes n h z) (Because.of_tree ts cut k rest i y) not nor = absurd (no_utf8 text n h cut.0)

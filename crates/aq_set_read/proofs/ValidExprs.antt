@@ -1,11 +1,11 @@
 -- Each expression that is put together is there, and valid behind those before it: by induction over the tree.
-use Rattle.std.proofs.Common.{◌≡◌, ℕ, ◌+◌, ◌*◌, ◌<◌, ◌≤◌, ◌==◌, Bool, true, false, not, nat_lt, List, [], ◌∷◌, ◌++◌, map, length, Option, Some, None, Ok, Err, refl, sym, ap, ap₂, subst, ◌∙◌, arith}
+use Rattle.std.proofs.Common.{◌≡◌, ℕ, ◌+◌, ◌*◌, ◌==◌, not, nat_lt, List, [], ◌∷◌, map, Option, Some, None, refl, sym, ap, ap₂, subst, ◌∙◌, arith}
 use Rattle.std.specs.List.{AllByRecursion}
 use Rattle.std.proofs.lemmas.Bool.{eqb-true, ltb-false, not-false}
 use Rattle.aq_lex.specs.declared.place.Place.{Place}
-use Rattle.aq_set_read.specs.Gathered.{Gathered, Checked, ◌>>=◌, named, most_qubits}
-use Rattle.aq_set_read.specs.Sizes.{Size, size_of}
-use Rattle.aq_set_read.specs.Meaning.{Step, step, out_of_range, node, all_made, set_named, name_made, powered, Join, tensored, united, Meaning, Operand, joined, chained, expr_step, factor_step, part_step, meaning, factor_of, part_of}
+use Rattle.aq_set_read.specs.Gathered.{Gathered, ◌>>=◌, named, most_qubits}
+use Rattle.aq_set_read.specs.Sizes.{size_of}
+use Rattle.aq_set_read.specs.Meaning.{Step, out_of_range, node, all_made, set_named, name_made, powered, Join, tensored, united, Meaning, Operand, joined, chained, expr_step, factor_step, part_step, meaning, factor_of, part_of}
 use Rattle.aq_set_read.specs.declared.made.Made.{Made}
 use Rattle.aq_set_read.specs.declared.tree.SetWord.{SetWord}
 use Rattle.aq_set_read.specs.declared.tree.SetPower.{SetPower}
@@ -13,13 +13,11 @@ use Rattle.aq_set_read.specs.declared.tree.SetExpr.{SetExpr}
 use Rattle.aq_set_read.specs.declared.tree.SetFactor.{SetFactor}
 use Rattle.aq_set_read.specs.declared.tree.SetPart.{SetPart}
 use Rattle.aq_set_read.specs.declared.tree.SetExpr.TheOpen.{SetExpr-F, SetFactor-F, SetPart-F}
-use Rattle.aq_set_read.specs.declared.tree.SetExpr.TheFolds.{map-SetExpr, map-SetFactor, map-SetPart, fold-SetExpr, fold-SetFactor, fold-SetPart, fold-roll-SetExpr, fold-roll-SetFactor, fold-roll-SetPart, ind-SetExpr}
+use Rattle.aq_set_read.specs.declared.tree.SetExpr.TheFolds.{map-SetExpr, map-SetFactor, map-SetPart, fold-roll-SetExpr, fold-roll-SetFactor, fold-roll-SetPart, ind-SetExpr}
 use Rattle.aq_set_read.specs.declared.tree.SetExpr.TheViews.{roll-SetExpr, roll-SetFactor, roll-SetPart}
-use Rattle.aq_set_read.specs.declared.sets.Expr.{Expr}
 use Rattle.aq_set_read.specs.declared.sets.Expr.TheVariants as expr
-use Rattle.aq_set_read.specs.declared.set_fault.SetFault.TheVariants as faults
 use Rattle.aq_set_read.proofs.ValidChecks.{Judged, follows, weaker}
-use Rattle.aq_set_read.proofs.ValidNodes.{IsMade, IsFew, IsSound, IsGrown, not_grown, grown_twice, made-grown, IsNext, IsFine, node-fine, few-within}
+use Rattle.aq_set_read.proofs.ValidNodes.{IsMade, IsFew, IsSound, not_grown, grown_twice, made-grown, IsFine, node-fine, few-within}
 use Rattle.aq_set_read.proofs.ValidTerms.{bracket_made-fine}
 
 abbrev pub IsGood : Meaning → Type 0

@@ -1,19 +1,18 @@
 -- What the items of a set file give is valid.
-use Rattle.std.proofs.Common.{◌≡◌, ℕ, suc, ◌+◌, ◌<◌, ◌≤◌, ◌==◌, Bool, true, false, not, nat_lt, List, [], ◌∷◌, ◌++◌, map, length, Option, Some, None, Ok, Err, refl, sym, ap, subst, ◌∙◌, arith}
-use Rattle.std.specs.Prelude.{slice_get, if◌then◌else◌}
-use Rattle.std.specs.List.{All, AllByRecursion, IsDistinct}
+use Rattle.std.proofs.Common.{◌≡◌, ℕ, suc, ◌+◌, ◌<◌, ◌==◌, Bool, true, false, not, nat_lt, List, [], ◌∷◌, ◌++◌, map, length, Option, Some, None, Ok, refl, sym, ap, subst, ◌∙◌, arith}
+use Rattle.std.specs.Prelude.{if◌then◌else◌}
+use Rattle.std.specs.List.{AllByRecursion, IsDistinct}
 use Rattle.std.specs.Option.{is_some}
 use Rattle.std.specs.Str.{bytes_eq}
-use Rattle.std.proofs.lemmas.Bool.{eqb-true, ltb-false, not-false}
+use Rattle.std.proofs.lemmas.Bool.{eqb-true, not-false}
 use Rattle.std.proofs.lemmas.List.{length_push, map-append, append_assoc, append-nil}
 use Rattle.std.proofs.lemmas.List.Elements.{All-from_recursion}
-use Rattle.aq_set_read.specs.Gathered.{Gathered, Checked, ◌>>=◌, ◌>>◌, refuse_if, named, nothing_gathered, most_names}
-use Rattle.aq_set_read.specs.Meaning.{Step, step, meaning, case_of, cases_made, same_qubits, first_qubits, cases_of, naming, with_set, with_claim, item_taken, items_taken, sets_in, sets_of}
+use Rattle.aq_set_read.specs.Gathered.{Gathered, ◌>>=◌, ◌>>◌, refuse_if, named, nothing_gathered, most_names}
+use Rattle.aq_set_read.specs.Meaning.{Step, meaning, cases_made, same_qubits, first_qubits, cases_of, naming, with_set, with_claim, item_taken, items_taken, sets_in, sets_of}
 use Rattle.aq_set_read.specs.Sizes.{size_of}
 use Rattle.aq_set_read.specs.Valid.{IsValidClaim, IsValidSets}
 use Rattle.aq_set_read.specs.declared.made.Made.{Made}
 use Rattle.aq_set_read.specs.declared.tree.SetWord.{SetWord}
-use Rattle.aq_set_read.specs.declared.tree.SetExpr.{SetExpr}
 use Rattle.aq_set_read.specs.declared.tree.SetCase.{SetCase}
 use Rattle.aq_set_read.specs.declared.tree.SetItem.{SetItem}
 use Rattle.aq_set_read.specs.declared.tree.SetItem.TheVariants as items
@@ -22,11 +21,10 @@ use Rattle.aq_set_read.specs.declared.sets.Expr.{Expr}
 use Rattle.aq_set_read.specs.declared.sets.Case.{Case}
 use Rattle.aq_set_read.specs.declared.sets.NamedSet.{NamedSet}
 use Rattle.aq_set_read.specs.declared.sets.NamedClaim.{NamedClaim}
-use Rattle.aq_set_read.specs.declared.sets.Sets.{Sets}
 use Rattle.aq_set_read.specs.declared.set_fault.SetFault.TheVariants as faults
 use Rattle.aq_set_read.proofs.ValidChecks.{Judged, follows, ahead, unless, refusal, weaker}
 use Rattle.aq_set_read.proofs.ValidSizes.{holds_more, holds_behind, holds_between, distinct_between}
-use Rattle.aq_set_read.proofs.ValidNodes.{IsMade, AreSound, IsCaseOn, IsSoundClaim, names_of, AreNamed, IsSound, IsGrown, not_grown, grown_twice, made-grown, IsFine}
+use Rattle.aq_set_read.proofs.ValidNodes.{IsMade, IsCaseOn, IsSoundClaim, names_of, AreNamed, IsSound, IsGrown, not_grown, grown_twice, made-grown, IsFine}
 use Rattle.aq_set_read.proofs.ValidExprs.{meaning-good}
 
 -- ---- names

@@ -1,16 +1,16 @@
 -- What is gathered stays sound where an expression is put behind the others.
-use Rattle.std.proofs.Common.{◌≡◌, ◌≢◌, ℕ, zero, suc, ◌+◌, ◌*◌, ◌^◌, ◌<◌, ◌≤◌, ◌==◌, Bool, true, false, not, nat_lt, nat_eq, List, [], ◌∷◌, ◌++◌, map, length, Option, Some, None, Ok, Err, refl, sym, ap, ap₂, subst, ◌∙◌, arith}
-use Rattle.std.specs.Prelude.{slice_get, ◌||◌, if◌then◌else◌}
-use Rattle.std.specs.List.{AllByRecursion, IsDistinct, list_any, fold}
+use Rattle.std.proofs.Common.{◌≡◌, ◌≢◌, ℕ, zero, suc, ◌+◌, ◌<◌, ◌≤◌, ◌==◌, Bool, true, false, nat_lt, List, [], ◌∷◌, ◌++◌, map, length, Option, Some, None, Ok, refl, sym, ap, subst, ◌∙◌, arith}
+use Rattle.std.specs.Prelude.{slice_get}
+use Rattle.std.specs.List.{AllByRecursion, IsDistinct}
 use Rattle.std.specs.Str.{bytes_eq}
-use Rattle.std.proofs.lemmas.Bool.{eqb-true, eqb-false, ltb-true, ltb-false, not-false, or_parts}
+use Rattle.std.proofs.lemmas.Bool.{eqb-false, ltb-true, ltb-false, or_parts}
 use Rattle.std.proofs.lemmas.List.{length-append, length_push, append_assoc, append-nil}
 use Rattle.std.proofs.lemmas.Option.{slice_get_within}
 use Rattle.aq_lex.specs.declared.place.Place.{Place}
-use Rattle.aq_set_read.specs.Gathered.{Gathered, Checked, ◌>>=◌, ◌>>◌, refuse_if, counted, named, most_qubits, most_nodes}
+use Rattle.aq_set_read.specs.Gathered.{Gathered, Checked, ◌>>=◌, counted, named, most_qubits, most_nodes}
 use Rattle.aq_set_read.specs.Tables.{table}
 use Rattle.aq_set_read.specs.Sizes.{Size, size_step, size_of}
-use Rattle.aq_set_read.specs.Meaning.{Step, step, out_of_range, with_expr, node}
+use Rattle.aq_set_read.specs.Meaning.{Step, out_of_range, with_expr, node}
 use Rattle.aq_set_read.specs.Valid.{IsValidExpr}
 use Rattle.aq_set_read.specs.declared.made.Made.{Made}
 use Rattle.aq_set_read.specs.declared.sets.Expr.{Expr}

@@ -1,7 +1,7 @@
 -- Expressions behind others: those before them keep their sizes and stay valid.
-use Rattle.std.proofs.Common.{◌≡◌, ℕ, zero, suc, ◌+◌, ◌<◌, ◌≤◌, List, [], ◌∷◌, ◌++◌, Some, None, length, true, false, refl, sym, ap, ap₂, ◌∙◌, arith}
+use Rattle.std.proofs.Common.{◌≡◌, ℕ, zero, suc, ◌<◌, ◌≤◌, List, [], ◌∷◌, ◌++◌, Some, length, false, refl, sym, ap, ◌∙◌, arith}
 use Rattle.std.specs.Prelude.{slice_get}
-use Rattle.std.specs.List.{fold, AllByRecursion, IsDistinct}
+use Rattle.std.specs.List.{AllByRecursion, IsDistinct}
 use Rattle.std.specs.Str.{bytes_eq}
 use Rattle.std.proofs.lemmas.Cmp.{nat_list_eq_equiv}
 use Rattle.std.proofs.lemmas.List.{get_or_push}
@@ -11,7 +11,7 @@ use Rattle.aq_set_read.specs.Sizes.{Size, no_size, size_step, size_of}
 use Rattle.aq_set_read.specs.Valid.{IsValidExpr}
 use Rattle.aq_set_read.specs.declared.sets.Expr.{Expr}
 use Rattle.aq_set_read.specs.declared.sets.Expr.TheVariants as expr
-use Rattle.aq_set_read.proofs.TableLaws.{grown, get_or-grown, length-table, table-push}
+use Rattle.aq_set_read.proofs.TableLaws.{get_or-grown, length-table, table-push}
 
 -- ---- sizes
 

@@ -1,26 +1,25 @@
 -- A bracket that is put together is valid: its terms have different indices, each below 2 to the number of its qubits.
-use Rattle.std.proofs.Common.{◌≡◌, ℕ, zero, suc, ◌+◌, ◌*◌, ◌^◌, ◌<◌, ◌≤◌, ◌==◌, Bool, true, false, not, nat_lt, nat_eq, List, [], ◌∷◌, ◌++◌, map, length, Ok, refl, sym, ap, subst, ◌∙◌, arith}
-use Rattle.std.specs.Prelude.{◌||◌, if◌then◌else◌}
-use Rattle.std.specs.List.{All, AllByRecursion, IsDistinct, list_any, fold}
-use Rattle.std.proofs.lemmas.Bool.{eqb-true, eqb-false, not-false, or_parts}
+use Rattle.std.proofs.Common.{◌≡◌, ℕ, ◌+◌, ◌*◌, ◌^◌, ◌<◌, ◌≤◌, ◌==◌, Bool, true, false, not, nat_lt, nat_eq, List, [], ◌∷◌, map, length, Ok, refl, sym, subst, ◌∙◌, arith}
+use Rattle.std.specs.Prelude.{if◌then◌else◌}
+use Rattle.std.specs.List.{AllByRecursion, IsDistinct, fold}
+use Rattle.std.proofs.lemmas.Bool.{eqb-true, not-false}
 use Rattle.std.proofs.lemmas.Grind.{pow_more}
 use Rattle.std.proofs.lemmas.Cmp.{nat_eq_equiv}
 use Rattle.std.proofs.lemmas.List.{length_push, map-append}
 use Rattle.std.proofs.lemmas.List.Elements.{All-from_recursion}
 use Rattle.std.proofs.lemmas.Map.Keys.{IsDistinct-push}
 use Rattle.aq_lex.specs.declared.place.Place.{Place}
-use Rattle.aq_set_read.specs.Gathered.{Gathered, Checked, ◌>>=◌, ◌>>◌, refuse_if, counted, most_qubits}
+use Rattle.aq_set_read.specs.Gathered.{Gathered, ◌>>=◌, ◌>>◌, refuse_if, counted, most_qubits}
 use Rattle.aq_set_read.specs.Coefs.{roots_of}
 use Rattle.aq_set_read.specs.Meaning.{Step, step, out_of_range, node, digits_of, ket_length, digit, binary, index_of, most_roots, stands_in, term_of, term_behind, term_taken, terms_taken, bracket_qubits, bracket_made}
 use Rattle.aq_set_read.specs.declared.tree.SetTerm.{SetTerm}
-use Rattle.aq_set_read.specs.declared.made.Made.{Made}
 use Rattle.aq_set_read.specs.declared.sets.Term.{Term}
 use Rattle.aq_set_read.specs.declared.sets.Expr.TheVariants as expr
 use Rattle.aq_set_read.specs.declared.set_fault.SetFault.TheVariants as faults
 use Rattle.aq_set_read.proofs.BracketLaws.{any_index}
 use Rattle.aq_set_read.proofs.ValidChecks.{Judged, follows, unless, weaker}
 use Rattle.aq_set_read.proofs.ValidSizes.{holds_behind}
-use Rattle.aq_set_read.proofs.ValidNodes.{IsFew, IsSound, IsGrown, not_grown, grown_twice, IsNext, IsFine, node-fine, one_node_more, counted-judged, counted-sound, few-within}
+use Rattle.aq_set_read.proofs.ValidNodes.{IsSound, IsGrown, not_grown, grown_twice, IsFine, node-fine, one_node_more, counted-judged, counted-sound, few-within}
 
 -- ---- indices
 

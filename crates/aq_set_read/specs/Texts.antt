@@ -1,6 +1,5 @@
 -- What the text of a set file says.
 use Rattle.std.specs.Prelude.{◌≡◌, ℕ, List, Ok, Err}
-use Rattle.aq_lex.specs.declared.place.Place.{Place}
 use Rattle.aq_set_read.specs.Cuts.{Reads}
 use Rattle.aq_set_read.specs.Told as lex
 use Rattle.aq_set_read.specs.Pieces.{pieces}
@@ -10,7 +9,6 @@ use Rattle.aq_set_read.specs.Meaning.{sets_of}
 use Rattle.aq_set_read.specs.declared.token.SetToken.{SetToken}
 use Rattle.aq_set_read.specs.declared.tree.SetTree.{SetTree}
 use Rattle.aq_set_read.specs.declared.sets.Sets.{Sets}
-use Rattle.aq_set_read.specs.declared.fault.SetLexFault.{SetLexFault}
 use Rattle.aq_set_read.specs.declared.fault.SetLexFault.TheVariants as lexed
 use Rattle.aq_set_read.specs.declared.parse_fault.SetParseFault.{SetParseFault}
 use Rattle.aq_set_read.specs.declared.parse_fault.SetParseFault.TheVariants as parsed

@@ -25,6 +25,8 @@ mod operators;
 mod parse_fault;
 mod parser;
 mod read;
+#[cfg(test)]
+mod read_tests;
 mod reader;
 mod scalars;
 mod scan;

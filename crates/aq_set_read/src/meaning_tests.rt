@@ -1,7 +1,6 @@
 ghost use Rattle.std.specs.Prelude.{◌≤◌, length};
 
-use crate::meaning::sets_of_tree;
-use crate::{Case, Cond, Expr, NamedClaim, SetFault, Sets, Term, parse_sets, tokens_of_sets};
+use crate::{Case, Cond, Expr, NamedClaim, SetFault, Sets, Term, read_sets};
 use aq_lex::Place;
 use aq_ring::Amp;
 use std::alloc::Global;
@@ -10,13 +9,7 @@ use std::test::Fail;
 fn said(alloc: Global, source: &[u8]) -> Result<Sets, SetFault>
     requires { length source.now ≤ 4194304 }
 {
-    let Ok(tokens) = tokens_of_sets(alloc, source) else {
-        return Err(SetFault::Memory);
-    };
-    let Ok(tree) = parse_sets(alloc, &tokens) else {
-        return Err(SetFault::Memory);
-    };
-    sets_of_tree(alloc, &tree)
+    read_sets(alloc, source)
 }
 
 /// The name and the place of a fault.
