@@ -1,8 +1,8 @@
 -- What the ratio of two vectors says of them.
-use Rattle.std.proofs.Common.{◌≡◌, ℕ, zero, suc, ◌<◌, Bool, true, false, List, [], ◌∷◌, All, Any, Contains, length, map, slice_index_or, refl, ap, sym, ◌∙◌, subst, arith, ◌⊎◌, inl, inr}
+use Rattle.std.proofs.Common.{◌≡◌, ℕ, zero, suc, ◌<◌, List, [], ◌∷◌, Contains, length, map, refl, ap, ◌∙◌, subst, arith, ◌⊎◌, inl, inr}
 use Rattle.aq_ring.specs.Fractions.{Amplitude}
 use Rattle.aq_ring.specs.Amplitudes.{FitsAmplitudeProduct}
-use Rattle.aq_ring.specs.Vectors.{IsZeroVector, Proportional}
+use Rattle.aq_ring.specs.Vectors.{Proportional}
 use Rattle.aq_label.specs.declared.Ratio.{Ratio}
 use Rattle.aq_label.specs.declared.Ratio.TheVariants.{AllZero, Different, Wide, Same}
 use Rattle.aq_label.specs.Ratios.{lefts, rights, at, IsWideBy, IsRatio, IsSame, IsDifferent}

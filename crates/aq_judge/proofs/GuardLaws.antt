@@ -1,6 +1,5 @@
 -- Bits that guards name.
-use Rattle.std.proofs.Common.{◌≡◌, ℕ, zero, suc, ◌+◌, ◌<◌, Bool, true, false, ◌||◌, List, [], ◌∷◌, ◌++◌, ◌==◌, length, map, drop, get_or, refl, ap, ap₂, sym, ◌∙◌, drop-cons, add-one}
-use Rattle.std.specs.List.{flat_map}
+use Rattle.std.proofs.Common.{◌≡◌, ℕ, suc, ◌+◌, ◌<◌, Bool, true, false, ◌||◌, List, ◌++◌, ◌==◌, length, map, drop, get_or, ap, ap₂, sym, ◌∙◌, drop-cons, add-one}
 use Rattle.std.proofs.lemmas.List.Folds.{list_any-append, flat_map-map}
 use Rattle.aq_prog.specs.declared.stmt.Guard.{Guard}
 use Rattle.aq_prog.specs.declared.stmt.Stmt.{Stmt}

@@ -7,3 +7,4 @@ pub mod StepLaws
 pub mod KeptLaws
 pub mod MetLaws
 pub mod VerdictLaws
+mod ExampleLaws

@@ -1,14 +1,13 @@
 -- What is found of the runs justifies the verdict.
-use Rattle.std.proofs.Common.{◌≡◌, ℕ, true, List, ◌∷◌, ◌++◌, All, Contains, refl, ap, sym, ◌∙◌, subst, ◌⊎◌, inl, inr}
+use Rattle.std.proofs.Common.{◌≡◌, ℕ, true, List, Contains, refl, sym, subst, inl, inr}
 use Rattle.std.proofs.lemmas.List.Elements.{Contains-append_left, Contains-append_right}
 use Rattle.aq_ring.specs.Fractions.{Amplitude}
 use Rattle.aq_prog.specs.declared.gate.Gate.{Gate}
 use Rattle.aq_prog.specs.declared.program.Program.{Program}
 use Rattle.aq_set_read.specs.declared.sets.Sets.{Sets}
 use Rattle.aq_obligations.specs.Asking.{products_in}
-use Rattle.aq_obligations.specs.Correct.{zeros}
 use Rattle.aq_obligations.specs.GatesOnly.{IsOfGates, starts, allowed, shown_from}
-use Rattle.aq_obligations.specs.Obligations.{Obligation, Shown, IsCounterexample}
+use Rattle.aq_obligations.specs.Obligations.{Obligation, IsCounterexample}
 use Rattle.aq_obligations.specs.Wide.{IsWide}
 use Rattle.aq_obligations.specs.Worlds.{IsRefutation}
 use Rattle.aq_obligations.specs.declared.bound.BoundCase.{BoundCase}
@@ -19,7 +18,7 @@ use Rattle.aq_report.specs.declared.verdict.Verdict.{Verdict}
 use Rattle.aq_report.specs.declared.verdict.Verdict.TheVariants as verdict
 use Rattle.aq_report.specs.declared.verdict.Why.TheVariants as why
 use Rattle.aq_judge.specs.Bodies.{are_gates, gates_in}
-use Rattle.aq_judge.specs.Finding.{WideStep, WideAmong, WideRun, IsUnclear, IsLostBy, Judges, HasWide}
+use Rattle.aq_judge.specs.Finding.{WideRun, IsLostBy, Judges, HasWide}
 use Rattle.aq_judge.specs.Owed.{owed}
 use Rattle.aq_judge.proofs.StmtLaws.{body_is}
 

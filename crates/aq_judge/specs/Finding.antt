@@ -1,5 +1,5 @@
 -- What the parts of the judge find, on plain lists of vectors.
-use Rattle.std.specs.Prelude.{◌≡◌, ℕ, ◌<◌, Bool, true, false, List, [], ◌∷◌, ◌++◌, map, All, Any, Contains, ◌⊎◌, slice_index_or}
+use Rattle.std.specs.Prelude.{◌≡◌, ℕ, Bool, true, false, List, [], ◌∷◌, ◌++◌, map, All, Any, Contains, ◌⊎◌}
 use Rattle.aq_ring.specs.Fractions.{Amplitude}
 use Rattle.aq_ring.specs.Amplitudes.{FitsAmplitudeProduct}
 use Rattle.aq_ring.specs.Vectors.{IsZeroVector, Proportional}

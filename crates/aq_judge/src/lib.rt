@@ -11,6 +11,8 @@ mod met;
 mod runs;
 mod steps;
 mod stop;
+#[cfg(test)]
+mod tests;
 mod verdict;
 
 pub use body::are_gates;

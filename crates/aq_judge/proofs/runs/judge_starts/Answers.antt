@@ -1,6 +1,4 @@
-use Rattle.std.proofs.Common.{◌≡◌, List, sym, ◌∙◌, ap, subst, length, get_or}
-use Rattle.aq_prog.specs.declared.stmt.Stmt.{Stmt}
-use Rattle.aq_plain.specs.Vectors.{StateVector}
+use Rattle.std.proofs.Common.{◌∙◌, ap}
 use Rattle.aq_judge.specs.declared.runs.End.TheVariants as end
 use Rattle.aq_judge.specs.Bodies.{gates_in}
 use Rattle.aq_judge.specs.Finding.{amps_of}

@@ -1,4 +1,4 @@
-use Rattle.std.proofs.Common.{◌≡◌, ◌||◌, ◌==◌, Bool, List, sym, ◌∙◌, ap}
+use Rattle.std.proofs.Common.{◌||◌, ◌==◌, Bool, List, sym, ◌∙◌, ap}
 use Rattle.aq_prog.specs.declared.stmt.Stmt.{Stmt}
 use Rattle.aq_obligations.specs.Enough.{guards}
 use Rattle.aq_judge.specs.Counting.{is_named, guards_of}

@@ -1,4 +1,4 @@
-use Rattle.std.proofs.Common.{◌≡◌, ◌+◌, List, length, sym, ◌∙◌, ap}
+use Rattle.std.proofs.Common.{◌+◌, List, length, ◌∙◌, ap}
 use Rattle.std.specs.List.{count_by, range_with_len}
 use Rattle.aq_prog.specs.declared.stmt.Stmt.{Stmt}
 use Rattle.aq_plain.specs.Caps.{capped}

@@ -1,4 +1,4 @@
-use Rattle.std.proofs.Common.{◌≡◌, ◌<◌, ◌∙◌, length, subst, sym, ap, get_or, arith}
+use Rattle.std.proofs.Common.{◌∙◌, length, ap, arith}
 use Rattle.aq_plain.specs.Caps.{capped}
 use Rattle.aq_obligations.specs.Enough.{weight_of}
 use Rattle.aq_obligations.specs.declared.bound.BoundCase.{BoundCase}

@@ -1,6 +1,5 @@
-use Rattle.std.proofs.Common.{◌≡◌, List, sym, ◌∙◌, ap}
+use Rattle.std.proofs.Common.{◌∙◌, ap}
 use Rattle.std.proofs.lemmas.Result.{err_from_is_err_and}
-use Rattle.aq_plain.specs.Vectors.{StateVector}
 use Rattle.aq_obligations.specs.Asking.{products_in}
 use Rattle.aq_obligations.specs.Wide.{IsWide}
 use Rattle.aq_judge.specs.Finding.{amps_of, HasWide}
