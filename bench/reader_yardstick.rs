@@ -1,9 +1,11 @@
 // A reader of programs in plain Rust, by docs/LANGUAGE.md: the yardstick for the crates that read programs.
 // Argument: a file. It prints the line that refuses the program, or the numbers of its qubits, bits and statements.
+mod tokens;
+
 use std::collections::HashMap;
 use std::{env, fs};
+use tokens::{Place, comment_len, is_letter, place_behind, run};
 
-type Place = (u32, u32);
 type Fault = (Place, &'static str);
 
 #[derive(Clone, Copy, PartialEq, Debug)]
@@ -37,24 +39,6 @@ const FOREIGN: &[&str] = &[
 
 fn is_in(words: &[&str], text: &[u8]) -> bool {
     words.iter().any(|word| word.as_bytes() == text)
-}
-
-fn is_letter(byte: u8) -> bool {
-    byte.is_ascii_alphabetic() || byte == b'_'
-}
-
-fn run(bytes: &[u8], goes_on: impl Fn(u8) -> bool) -> usize {
-    bytes.iter().take_while(|byte| goes_on(**byte)).count()
-}
-
-fn comment_len(rest: &[u8]) -> Result<usize, &'static str> {
-    if rest[1] == b'/' {
-        return Ok(run(rest, |byte| byte != b'\n'));
-    }
-    match rest[2..].windows(2).position(|pair| pair == b"*/") {
-        Some(len) => Ok(len + 4),
-        None => Err("OpenComment"),
-    }
 }
 
 fn number(rest: &[u8]) -> Result<(Kind, usize), &'static str> {
@@ -99,10 +83,6 @@ fn token(rest: &[u8], clear: bool) -> Result<(Kind, usize), &'static str> {
         b';' | b',' | b'(' | b')' | b'[' | b']' | b'{' | b'}' | b'=' | b'!' | b'-' | b'*' | b'/' | b'@' => (Kind::Sign([first, 0]), 1),
         _ => return Err("BadByte"),
     })
-}
-
-fn place_behind(at: Place, bytes: &[u8]) -> Place {
-    bytes.iter().fold(at, |(line, column), byte| if *byte == b'\n' { (line + 1, 1) } else { (line, column + 1) })
 }
 
 fn tokens(text: &[u8]) -> Result<Vec<Token<'_>>, Fault> {

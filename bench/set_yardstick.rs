@@ -5,12 +5,13 @@
 #[allow(dead_code)]
 #[path = "apply_yardstick.rs"]
 mod play;
+mod tokens;
 
 use play::{Amp, Entry, Gate, ZERO, apply, checked, lowest};
 use std::collections::{HashMap, HashSet};
 use std::{env, fs};
+use tokens::{Place, comment_len, is_letter, place_behind, run};
 
-type Place = (u32, u32);
 type Fault = (Place, &'static str);
 
 const ONE: Amp = Amp { num: [1, 0, 0, 0], power: 0 };
@@ -36,21 +37,6 @@ struct Token<'a> {
     kind: Kind,
     text: &'a [u8],
     at: Place,
-}
-
-fn is_letter(byte: u8) -> bool {
-    byte.is_ascii_alphabetic() || byte == b'_'
-}
-
-fn run(bytes: &[u8], goes_on: impl Fn(u8) -> bool) -> usize {
-    bytes.iter().take_while(|byte| goes_on(**byte)).count()
-}
-
-fn comment_len(rest: &[u8]) -> Result<usize, &'static str> {
-    if rest[1] == b'/' {
-        return Ok(run(rest, |byte| byte != b'\n'));
-    }
-    rest[2..].windows(2).position(|pair| pair == b"*/").map(|len| len + 4).ok_or("OpenComment")
 }
 
 fn number(rest: &[u8]) -> Result<(Kind, usize), &'static str> {
@@ -82,10 +68,6 @@ fn token(rest: &[u8]) -> Result<(Kind, usize), &'static str> {
         first if b"=;,[]()*^+-/".contains(&first) => (Kind::Sign(first), 1),
         _ => return Err("BadByte"),
     })
-}
-
-fn place_behind(at: Place, bytes: &[u8]) -> Place {
-    bytes.iter().fold(at, |(line, column), byte| if *byte == b'\n' { (line + 1, 1) } else { (line, column + 1) })
 }
 
 fn tokens(text: &[u8]) -> Result<Vec<Token<'_>>, Fault> {

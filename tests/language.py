@@ -6,6 +6,8 @@ tokens that are found by one regular expression each; places are counted anew fo
 
 import re
 
+from tokens import Token, TokenReader
+
 MOST_NUMBER = 1000000000
 MOST_DEPTH = 64
 MOST_QUBITS = 16
@@ -18,6 +20,8 @@ FOREIGN = (
     "gate ctrl negctrl inv pow gphase for def extern delay box defcal cal defcalgrammar input output let const int uint "
     "float angle bool complex duration stretch array return break continue end switch pragma"
 ).split()
+
+RESERVED = OWN + FOREIGN
 
 # how many controls a gate has; the operands are these and a target
 CONTROLS = dict.fromkeys("id x y z h s sdg t tdg sx p rx ry rz".split(), 0)
@@ -61,18 +65,6 @@ def place(text, at):
     return (text.count(b"\n", 0, at) + 1, at - text.rfind(b"\n", 0, at))
 
 
-class Token:
-    def __init__(self, kind, text, at):
-        self.kind = kind
-        self.text = text
-        self.at = at
-        if kind == "name" and text.decode() in OWN + FOREIGN:
-            self.kind = "word"
-
-    def is_sign(self, text):
-        return self.kind in ("word", "symbol") and self.text == text
-
-
 def piece(text, at):
     """The kind and the end of the longest piece that begins at the place, or nothing."""
     if text[at : at + 1] == b"@":
@@ -102,25 +94,15 @@ def tokens(text):
         if kind[0].isupper():
             raise Refused(place(text, at), kind)
         if kind not in ("blank", "comment"):
-            found.append(Token(kind, text[at:end], place(text, at)))
+            found.append(Token(kind, text[at:end], place(text, at), RESERVED))
         at = end
-    return found + [Token("end", b"", place(text, at))]
+    return found + [Token("end", b"", place(text, at), RESERVED)]
 
 
 # ---- the grammar: a statement is a dictionary
 
 
-class Reader:
-    def __init__(self, found):
-        self.found = found
-        self.next = 0
-
-    def token(self):
-        return self.found[self.next]
-
-    def sees(self, *texts):
-        return any(self.token().is_sign(text) for text in texts)
-
+class Reader(TokenReader):
     def refuse(self, name="Unexpected", word=""):
         raise Refused(self.token().at, name, word)
 

@@ -6,6 +6,8 @@ and its number of qubits; a claim is a list of cases, and a case an expression a
 
 import re
 
+from tokens import Token, TokenReader
+
 MOST_DEPTH = 64
 MOST_QUBITS = 16
 MOST_NAMES = 1000
@@ -40,16 +42,6 @@ class Refused(Exception):
         return "%d:%d: %s" % (text.count(b"\n", 0, self.at) + 1, column, self.name)
 
 
-class Token:
-    def __init__(self, kind, text, at):
-        self.kind = "word" if kind == "name" and text.decode() in RESERVED else kind
-        self.text = text
-        self.at = at
-
-    def is_sign(self, text):
-        return self.kind in ("word", "symbol") and self.text == text
-
-
 def piece(text, at):
     """The kind and the end of the longest piece that begins at the place."""
     found = [(pattern.match(text, at), kind) for kind, pattern in KINDS]
@@ -80,25 +72,15 @@ def tokens(text):
         if kind[0].isupper():
             raise Refused(at, kind)
         if kind not in ("blank", "comment"):
-            found.append(Token(kind, text[at:end], at))
+            found.append(Token(kind, text[at:end], at, RESERVED))
         at = end
-    return found + [Token("end", b"", at)]
+    return found + [Token("end", b"", at, RESERVED)]
 
 
 # ---- the grammar
 
 
-class Reader:
-    def __init__(self, found):
-        self.found = found
-        self.next = 0
-
-    def token(self):
-        return self.found[self.next]
-
-    def sees(self, *texts):
-        return any(self.token().is_sign(text) for text in texts)
-
+class Reader(TokenReader):
     def take(self, kind=None, *texts):
         """The next token, which is to be of the kind, or one of the signs."""
         token = self.token()

@@ -487,14 +487,14 @@ gives_up("a state that doesn't fit before one that escapes", "qubit q; h q;", BI
 
 # ---- examples/: the files as they lie there
 
-W7 = "(0,0,0,-1)/0"
+MINUS_W_CUBED = "(0,0,0,-1)/0"
 # of the state 1: the first qubit has |0> - |1>, the second |0> + i|1> and the third, which isn't turned, |0> + |1>
 UNTURNED = ["(1,0,0,0)/3"] * 2 + ["(0,0,1,0)/3"] * 2 + ["(-1,0,0,0)/3"] * 2 + ["(0,0,-1,0)/3"] * 2
 EXAMPLES = [
     ("swap_all", VERIFIED, 0),
     ("diagonal", VERIFIED, 0),
     # the first sum: rz turns both kets by w^7, and t turns the second one by w
-    ("diagonal_sums", refuted([("00000", ONE), ("00001", ONE)], [("00000", W7), ("00001", ONE)]), 1),
+    ("diagonal_sums", refuted([("00000", ONE), ("00001", ONE)], [("00000", MINUS_W_CUBED), ("00001", ONE)]), 1),
     ("hadamards", VERIFIED, 0),
     ("fourier", VERIFIED, 0),
     ("fourier_unturned", refuted([("001", ONE)], [(format(place, "03b"), end) for place, end in enumerate(UNTURNED)]), 1),
