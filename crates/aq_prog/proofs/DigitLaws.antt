@@ -54,7 +54,7 @@ set-own : (w x : ℕ) → set w (x / w % 2) x ≡ x
 unfolding set
 set-own w x = sym (parts w x)
 
-set-below : (w b x m : ℕ) → 0 < w → b < 2 → x < m * (2 * w) → set w b x < m * (2 * w)
+pub set-below : (w b x m : ℕ) → 0 < w → b < 2 → x < m * (2 * w) → set w b x < m * (2 * w)
 unfolding set
 set-below w b x m h k below =
     let p = parts w x in
@@ -93,7 +93,7 @@ with_digit-below n q b x h k below =
     rw (e, with_digit-is n q b x) (set-below (weight n q) b x (2 ^ q) (weight-positive n q) k (rw e at below))
 
 -- a lower qubit's weight is twice a higher one's times a power
-weights : (n low high : ℕ) → low < high → high < n → weight n low ≡ weight n high * (2 * 2 ^ (high - low - 1))
+pub weights : (n low high : ℕ) → low < high → high < n → weight n low ≡ weight n high * (2 * 2 ^ (high - low - 1))
 weights n low high h k =
     let e : n - 1 - low ≡ (n - 1 - high) + (1 + (high - low - 1)) = omega arith in
     ap (λ j. 2 ^ j) e ∙ pow-add 2 (n - 1 - high) (1 + (high - low - 1)) ∙ ap (λ j. weight n high * j) (pow-add 2 1 (high - low - 1))
