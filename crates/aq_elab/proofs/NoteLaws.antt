@@ -5,7 +5,8 @@ use Rattle.std.specs.Str.{bytes_eq}
 use Rattle.aq_parse.specs.declared.tree.Note.{Note}
 use Rattle.aq_prog.specs.declared.stmt.Stmt.{Stmt}
 use Rattle.aq_prog.specs.declared.stmt.Stmt.TheVariants as stmt
-use Rattle.aq_elab.specs.Known.{Checked, ◌>>=◌, ◌>>◌, refuse_if}
+use Rattle.aq_base.specs.Checks.{refuse_if, ◌>>=◌, ◌>>◌}
+use Rattle.aq_elab.specs.Known.{Checked}
 use Rattle.aq_elab.specs.Annotations.{Annotations, note_taken, notes_taken, asserted, kept, is_name, is_stray, claim_number}
 use Rattle.aq_elab.specs.declared.fault.ElabFault.{ElabFault}
 use Rattle.aq_elab.specs.declared.fault.ElabFault.TheVariants as faults

@@ -6,7 +6,8 @@ use Rattle.aq_parse.specs.declared.tree.Note.{Note}
 use Rattle.aq_parse.specs.declared.tree.Item.{Item}
 use Rattle.aq_parse.specs.declared.tree.Node.TheFolds.{fold_out-Item}
 use Rattle.aq_prog.specs.declared.stmt.Stmt.{Stmt}
-use Rattle.aq_elab.specs.Known.{Known, Checked, ◌>>=◌, ◌>>◌, refuse_if}
+use Rattle.aq_base.specs.Checks.{refuse_if, ◌>>=◌, ◌>>◌}
+use Rattle.aq_elab.specs.Known.{Known, Checked}
 use Rattle.aq_elab.specs.Annotations.{Annotations, annotations, notes_taken}
 use Rattle.aq_elab.specs.Behind.{behind, Noted, noted_by, all_noted}
 use Rattle.aq_elab.specs.Nodes.{meaning_of}

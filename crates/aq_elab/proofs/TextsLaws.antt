@@ -9,7 +9,8 @@ use Rattle.aq_parse.specs.declared.tree.Tree.{Tree}
 use Rattle.aq_parse.proofs.Judged.{one_tree}
 use Rattle.aq_prog.specs.declared.program.Program.{Program}
 use Rattle.aq_elab.specs.Elaborated.{elaborated}
-use Rattle.aq_elab.specs.Texts.{most_deep, HasTree, SaysProgram}
+use Rattle.aq_base.specs.Limits.{most_nested}
+use Rattle.aq_elab.specs.Texts.{HasTree, SaysProgram}
 use Rattle.aq_elab.specs.declared.fault.ElabFault.{ElabFault}
 
 ok_is : {A E : Type 0} (x y : A) → ◌≡◌ {A = Result A E} (Ok x) (Ok y) → x ≡ y
@@ -18,8 +19,8 @@ ok_is x y e = cc
 pub one_tree_of_text : (text : List ℕ) (x y : Tree) → HasTree text x → HasTree text y → x ≡ y
 one_tree_of_text text x y h k =
     let same : h.tokens ≡ k.tokens = ok_is {E = LexFault} h.tokens k.tokens (one_reading text (Ok h.tokens) (Ok k.tokens) h.cut k.cut) in
-    one_tree most_deep most_deep x y (pieces (record { source = text; list = k.tokens }))
-    (subst (λ (ts : List Token). IsProgram most_deep x (pieces (record { source = text; list = ts }))) same h.grammar) k.grammar
+    one_tree most_nested most_nested x y (pieces (record { source = text; list = k.tokens }))
+    (subst (λ (ts : List Token). IsProgram most_nested x (pieces (record { source = text; list = ts }))) same h.grammar) k.grammar
 
 pub one_program : (text : List ℕ) (p q : Program) → SaysProgram text p → SaysProgram text q → p ≡ q
 one_program text p q s t =

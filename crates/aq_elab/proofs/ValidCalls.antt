@@ -19,7 +19,8 @@ use Rattle.aq_prog.specs.declared.gate.Entry.{Entry}
 use Rattle.aq_prog.specs.declared.gate.Gate.{Gate}
 use Rattle.aq_prog.specs.declared.table.Rows.{Rows}
 use Rattle.aq_prog.proofs.TableLaws.{rows_named-entries, four}
-use Rattle.aq_elab.specs.Known.{Known, Checked, ◌>>=◌, ◌>>◌, refuse_if, or_refuse, all_checked}
+use Rattle.aq_base.specs.Checks.{all_checked, or_refuse, refuse_if, ◌>>=◌, ◌>>◌}
+use Rattle.aq_elab.specs.Known.{Known, Checked}
 use Rattle.aq_elab.specs.Spots.{span_of, member}
 use Rattle.aq_elab.specs.Angles.{eighths_of}
 use Rattle.aq_elab.specs.Calls.{one_of_table, recipe_named, is_unknown, is_angle_missed, recipe_at, spots_of, recipe_of, all_but_last, last, gate_on, flip_rows, flip_on, swap_on, cswap_on, gates_on, times_of, differs, same_sizes, instance, instances, no_repeat, no_repeats, gates_of_call}

@@ -11,9 +11,11 @@ use Rattle.std.proofs.lemmas.Cmp.{nat_list_eq_equiv}
 use Rattle.std.proofs.lemmas.Map.Keys.{IsDistinct-push}
 use Rattle.aq_parse.specs.declared.tree.Word.{Word}
 use Rattle.aq_parse.specs.declared.tree.Spot.{Spot}
-use Rattle.aq_prog.specs.Programs.{most_qubits, most_bits, AreInRow}
+use Rattle.aq_base.specs.Checks.{refuse_if, ◌>>◌}
+use Rattle.aq_base.specs.Limits.{most_bits, most_qubits}
+use Rattle.aq_prog.specs.Programs.{AreInRow}
 use Rattle.aq_prog.specs.declared.program.BitRegister.{BitRegister}
-use Rattle.aq_elab.specs.Known.{Known, nothing_known, declared_as, ◌>>◌, refuse_if}
+use Rattle.aq_elab.specs.Known.{Known, nothing_known, declared_as}
 use Rattle.aq_elab.specs.Spots.{is_role, width_of, width, offset, member, part_at, part_of, part_as, span_of}
 use Rattle.aq_elab.specs.Statements.{is_none_of, registered, declaring}
 use Rattle.aq_elab.specs.Elaborated.{register_of, registers_of}

@@ -8,7 +8,8 @@ use Rattle.aq_prog.specs.Programs.{IsValidLevel, IsWrittenLevel, IsWritten, IsVa
 use Rattle.aq_prog.specs.declared.program.Program.{Program}
 use Rattle.aq_prog.specs.declared.stmt.Stmt.{Stmt}
 use Rattle.aq_prog.specs.declared.stmt.Stmt.TheOpen.{Stmt-F}
-use Rattle.aq_elab.specs.Known.{Checked, ◌>>=◌, ◌>>◌, refuse_if, nothing_known, Gives}
+use Rattle.aq_base.specs.Checks.{refuse_if, ◌>>=◌, ◌>>◌}
+use Rattle.aq_elab.specs.Known.{Checked, nothing_known, Gives}
 use Rattle.aq_elab.specs.Statements.{Step, statements_of}
 use Rattle.aq_elab.specs.Elaborated.{program_of, elaborated}
 use Rattle.aq_elab.specs.declared.fault.ElabFault.{ElabFault}

@@ -5,7 +5,8 @@ use Rattle.std.specs.List.{All, AllByRecursion, IsDistinct, list_any, flat_map, 
 use Rattle.std.proofs.lemmas.List.Elements.{All-nil, All-push, All-append, All-head, All-tail}
 use Rattle.std.proofs.lemmas.Map.Keys.{IsDistinct-head, IsDistinct-tail, IsDistinct-cons}
 use Rattle.aq_prog.specs.Digits.{tabulate}
-use Rattle.aq_elab.specs.Known.{Checked, ◌>>=◌, ◌>>◌, refuse_if, or_refuse, all_checked}
+use Rattle.aq_base.specs.Checks.{all_checked, or_refuse, refuse_if, ◌>>=◌, ◌>>◌}
+use Rattle.aq_elab.specs.Known.{Checked}
 use Rattle.aq_elab.specs.Calls.{all_but_last, last}
 use Rattle.aq_elab.specs.declared.fault.ElabFault.{ElabFault}
 

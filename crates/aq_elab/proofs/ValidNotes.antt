@@ -10,7 +10,7 @@ use Rattle.aq_parse.specs.declared.tree.Note.{Note}
 use Rattle.aq_prog.specs.declared.stmt.Stmt.{Stmt, every-Stmt}
 use Rattle.aq_prog.specs.declared.stmt.Stmt.TheVariants as stmt
 use Rattle.aq_prog.specs.declared.stmt.Stmt.TheOpen.{Stmt-F}
-use Rattle.aq_elab.specs.Known.{◌>>◌, refuse_if}
+use Rattle.aq_base.specs.Checks.{refuse_if, ◌>>◌}
 use Rattle.aq_elab.specs.Annotations.{is_name, claim_number, with_claim, Annotations, asserted, kept, is_stray, note_taken, notes_taken, annotations}
 use Rattle.aq_elab.specs.declared.fault.ElabFault.TheVariants as faults
 use Rattle.aq_elab.proofs.ValidLists.{follows, unless, at_test, place-below}

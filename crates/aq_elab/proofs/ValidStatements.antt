@@ -17,11 +17,13 @@ use Rattle.aq_prog.specs.declared.stmt.Guard.{Guard}
 use Rattle.aq_prog.specs.declared.stmt.Stmt.{Stmt, every-Stmt}
 use Rattle.aq_prog.specs.declared.stmt.Stmt.TheVariants as stmt
 use Rattle.aq_prog.specs.declared.stmt.Stmt.TheOpen.{Stmt-F}
-use Rattle.aq_elab.specs.Known.{Known, Checked, ◌>>=◌, ◌>>◌, refuse_if, or_refuse, all_checked}
+use Rattle.aq_base.specs.Checks.{all_checked, or_refuse, refuse_if, ◌>>=◌, ◌>>◌}
+use Rattle.aq_base.specs.Limits.{most_statements}
+use Rattle.aq_elab.specs.Known.{Known, Checked}
 use Rattle.aq_elab.specs.Spots.{span_of, width, member}
 use Rattle.aq_elab.specs.Calls.{gates_of_call}
 use Rattle.aq_elab.specs.Annotations.{Annotations, annotations}
-use Rattle.aq_elab.specs.Statements.{most_statements, Step, step, declaring, paired, unpaired, measured, measured_into, resets, guard_of, counted, NodeMeaning, Meaning, in_order, flat, plain, declaration, branching, looping, bits_declared, with_claims, item_step}
+use Rattle.aq_elab.specs.Statements.{Step, step, declaring, paired, unpaired, measured, measured_into, resets, guard_of, counted, NodeMeaning, Meaning, in_order, flat, plain, declaration, branching, looping, bits_declared, with_claims, item_step}
 use Rattle.aq_elab.specs.declared.fault.ElabFault.TheVariants as faults
 use Rattle.aq_elab.specs.declared.scope.Span.{Span}
 use Rattle.aq_elab.specs.declared.scope.Role.TheVariants as roles

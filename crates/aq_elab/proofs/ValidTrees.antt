@@ -9,7 +9,8 @@ use Rattle.aq_parse.specs.declared.tree.Node.TheViews.{roll-Node, roll-Item}
 use Rattle.aq_prog.specs.declared.stmt.Stmt.{Stmt}
 use Rattle.aq_prog.specs.declared.stmt.Stmt.TheVariants as stmt
 use Rattle.aq_prog.specs.declared.stmt.Stmt.TheOpen.{Stmt-F}
-use Rattle.aq_elab.specs.Known.{Known, ◌>>=◌, all_checked}
+use Rattle.aq_base.specs.Checks.{all_checked, ◌>>=◌}
+use Rattle.aq_elab.specs.Known.{Known}
 use Rattle.aq_elab.specs.Spots.{span_of}
 use Rattle.aq_elab.specs.Calls.{gates_of_call}
 use Rattle.aq_elab.specs.Statements.{step, declaring, measured, resets, NodeMeaning, Meaning, bits_declared, node_step, item_step, meaning, statements_of}

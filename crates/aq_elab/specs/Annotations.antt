@@ -7,7 +7,8 @@ use Rattle.aq_lex.specs.Bytes.{is_word, is_letter}
 use Rattle.aq_parse.specs.declared.tree.Note.{Note}
 use Rattle.aq_prog.specs.declared.stmt.Stmt.{Stmt}
 use Rattle.aq_prog.specs.declared.stmt.Stmt.TheVariants as stmt
-use Rattle.aq_elab.specs.Known.{Checked, ◌>>=◌, ◌>>◌, refuse_if}
+use Rattle.aq_base.specs.Checks.{refuse_if, ◌>>=◌, ◌>>◌}
+use Rattle.aq_elab.specs.Known.{Checked}
 use Rattle.aq_elab.specs.declared.fault.ElabFault.TheVariants as faults
 
 -- a name: a letter or `_`, then letters, digits and `_`

@@ -11,7 +11,8 @@ use Rattle.aq_parse.specs.declared.tree.Node.TheOpen.{Node-F}
 use Rattle.aq_prog.specs.declared.stmt.Stmt.{Stmt}
 use Rattle.aq_prog.specs.declared.stmt.Stmt.TheVariants as stmt
 use Rattle.aq_elab.specs.Calls.{gates_of_call}
-use Rattle.aq_elab.specs.Known.{Known, Checked, ◌>>=◌, all_checked}
+use Rattle.aq_base.specs.Checks.{all_checked, ◌>>=◌}
+use Rattle.aq_elab.specs.Known.{Known, Checked}
 use Rattle.aq_elab.specs.Annotations.{Annotations, note_taken, notes_taken}
 use Rattle.aq_elab.specs.Spots.{span_of}
 use Rattle.aq_elab.specs.declared.scope.Role.TheVariants as roles

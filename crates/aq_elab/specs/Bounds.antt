@@ -1,6 +1,6 @@
 -- How large the numbers of what is known are, and how a name is added to it.
 use Rattle.std.specs.Prelude.{ℕ, ◌+◌, ◌≤◌, List, [], ◌∷◌, ◌++◌, All, Option}
-use Rattle.aq_prog.specs.Programs.{most_qubits, most_bits}
+use Rattle.aq_base.specs.Limits.{most_bits, most_qubits}
 use Rattle.aq_elab.specs.Known.{Known}
 use Rattle.aq_elab.specs.Spots.{width}
 use Rattle.aq_elab.specs.declared.scope.Declared.{Declared}

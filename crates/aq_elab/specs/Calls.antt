@@ -11,7 +11,8 @@ use Rattle.aq_prog.specs.Table.{rows_named, w, nil}
 use Rattle.aq_prog.specs.declared.gate.Entry.{Entry}
 use Rattle.aq_prog.specs.declared.gate.Gate.{Gate}
 use Rattle.aq_prog.specs.declared.table.Rows.{Rows}
-use Rattle.aq_elab.specs.Known.{Known, Checked, ◌>>=◌, ◌>>◌, refuse_if, or_refuse, all_checked}
+use Rattle.aq_base.specs.Checks.{all_checked, or_refuse, refuse_if, ◌>>=◌, ◌>>◌}
+use Rattle.aq_elab.specs.Known.{Known, Checked}
 use Rattle.aq_elab.specs.Spots.{span_of, member}
 use Rattle.aq_elab.specs.Angles.{eighths_of}
 use Rattle.aq_elab.specs.declared.fault.ElabFault.TheVariants as faults

@@ -5,7 +5,8 @@ use Rattle.std.specs.Option.{is_some}
 use Rattle.aq_parse.specs.declared.tree.Tree.{Tree}
 use Rattle.aq_prog.specs.declared.program.Program.{Program}
 use Rattle.aq_prog.specs.declared.program.BitRegister.{BitRegister}
-use Rattle.aq_elab.specs.Known.{Checked, ◌>>=◌, ◌>>◌, refuse_if, nothing_known}
+use Rattle.aq_base.specs.Checks.{refuse_if, ◌>>=◌, ◌>>◌}
+use Rattle.aq_elab.specs.Known.{Checked, nothing_known}
 use Rattle.aq_elab.specs.Spots.{width}
 use Rattle.aq_elab.specs.Statements.{Step, statements_of}
 use Rattle.aq_elab.specs.declared.fault.ElabFault.TheVariants as faults

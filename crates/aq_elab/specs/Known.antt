@@ -1,6 +1,7 @@
 -- What the statements before a place have made known, and computations that add to it or stop at the first fault.
 use Rattle.std.specs.Prelude.{◌≡◌, ℕ, List, [], ◌∷◌, Option, Some, None, Result, Ok, Err, Bool, if◌then◌else◌}
 use Rattle.std.specs.Str.{bytes_eq}
+use Rattle.aq_base.specs.Checks.{CheckedBy, GivesUnless}
 use Rattle.aq_elab.specs.declared.fault.ElabFault.{ElabFault}
 use Rattle.aq_elab.specs.declared.fault.ElabFault.TheVariants as faults
 use Rattle.aq_elab.specs.declared.scope.Declared.{Declared}
@@ -25,34 +26,9 @@ declared_as (entry ∷ rest) name = if bytes_eq name entry.0 then Some entry.1 e
 -- ---- checks, of which the first that fails tells the fault
 
 abbrev pub Checked : Type 0 → Type 0
-Checked A = Result A ElabFault
-
--- the fault where the test holds
-abbrev pub refuse_if : Bool → ElabFault → Checked (Unit {0})
-refuse_if test fault = if test then Err fault else Ok tt
-
-abbrev pub or_refuse : {A : Type 0} → ElabFault → Option A → Checked A
-or_refuse fault (Some x) = Ok x
-or_refuse fault None = Err fault
-
-infixl 10 ◌>>=◌
-abbrev pub ◌>>=◌ : {A B : Type 0} → Checked A → (A → Checked B) → Checked B
-(Ok x) >>= f = f x
-(Err e) >>= f = Err e
-
--- the check, and then what follows
-infixr 9 ◌>>◌
-abbrev pub ◌>>◌ : {A : Type 0} → Checked (Unit {0}) → Checked A → Checked A
-(Ok u) >> next = next
-(Err e) >> next = Err e
-
--- each in order, up to the first fault
-abbrev pub all_checked : {A B : Type 0} → (A → Checked B) → List A → Checked (List B)
-all_checked f [] = Ok []
-all_checked f (x ∷ xs) = f x >>= λ y. all_checked f xs >>= λ ys. Ok (y ∷ ys)
+Checked = CheckedBy ElabFault
 
 -- ---- what a function of the program answers: the same, unless memory ran out
 
 abbrev pub Gives : {A B : Type 0} → (B → A) → Result B ElabFault → Checked A → Type 0
-Gives view (Ok x) wanted = wanted ≡ Ok (view x)
-Gives view (Err e) wanted = (e ≡ faults.Memory → ⊥) → wanted ≡ Err e
+Gives = GivesUnless faults.Memory

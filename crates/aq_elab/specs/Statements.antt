@@ -3,6 +3,8 @@
 -- checks, then the number of statements, then the statements inside.
 use Rattle.std.specs.Prelude.{ℕ, ◌+◌, ◌==◌, Bool, true, false, not, ◌&&◌, List, [], ◌∷◌, ◌++◌, map, length, Option, Some, None, Ok, nat_lt}
 use Rattle.std.specs.Option.{is_some}
+use Rattle.aq_base.specs.Checks.{all_checked, or_refuse, refuse_if, ◌>>=◌, ◌>>◌}
+use Rattle.aq_base.specs.Limits.{most_bits, most_qubits, most_statements}
 use Rattle.aq_lex.specs.declared.place.Place.{Place}
 use Rattle.aq_parse.specs.declared.tree.Word.{Word}
 use Rattle.aq_parse.specs.declared.tree.Spot.{Spot}
@@ -11,11 +13,10 @@ use Rattle.aq_parse.specs.declared.tree.Item.{Item}
 use Rattle.aq_parse.specs.declared.tree.Node.TheOpen.{Node-F, Item-F}
 use Rattle.aq_parse.specs.declared.tree.Node.TheFolds.{fold-Item}
 use Rattle.aq_prog.specs.Digits.{tabulate}
-use Rattle.aq_prog.specs.Programs.{most_qubits, most_bits}
 use Rattle.aq_prog.specs.declared.stmt.Guard.{Guard}
 use Rattle.aq_prog.specs.declared.stmt.Stmt.{Stmt}
 use Rattle.aq_prog.specs.declared.stmt.Stmt.TheVariants as stmt
-use Rattle.aq_elab.specs.Known.{Known, Checked, ◌>>=◌, ◌>>◌, refuse_if, or_refuse, all_checked, declared_as}
+use Rattle.aq_elab.specs.Known.{Known, Checked, declared_as}
 use Rattle.aq_elab.specs.Spots.{span_of, width, width_of, member}
 use Rattle.aq_elab.specs.Calls.{gates_of_call}
 use Rattle.aq_elab.specs.Annotations.{annotations}
@@ -23,10 +24,6 @@ use Rattle.aq_elab.specs.declared.fault.ElabFault.TheVariants as faults
 use Rattle.aq_elab.specs.declared.scope.Span.{Span}
 use Rattle.aq_elab.specs.declared.scope.Role.{Role}
 use Rattle.aq_elab.specs.declared.scope.Role.TheVariants as roles
-
--- the most statements of a program, inner ones included
-abbrev pub most_statements : ℕ
-most_statements = 100000
 
 -- what is known then, and the statements of the program
 pub record Step : Type 0 where

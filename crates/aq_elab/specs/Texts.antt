@@ -1,5 +1,6 @@
 -- What the text of a program says.
 use Rattle.std.specs.Prelude.{◌≡◌, ℕ, List, Ok, Err}
+use Rattle.aq_base.specs.Limits.{most_nested}
 use Rattle.aq_lex.specs.Cuts.{Reads}
 use Rattle.aq_lex.specs.declared.token.Token.{Token}
 use Rattle.aq_parse.specs.Pieces.{pieces}
@@ -9,15 +10,11 @@ use Rattle.aq_prog.specs.declared.program.Program.{Program}
 use Rattle.aq_elab.specs.Elaborated.{elaborated}
 use Rattle.aq_elab.specs.declared.fault.ElabFault.{ElabFault}
 
--- how deep bodies may nest
-abbrev pub most_deep : ℕ
-most_deep = 64
-
 -- The text's tokens have this tree by the grammar.
 pub record HasTree (text : List ℕ) (tree : Tree) : Type 0 where
   pub tokens : List Token
   pub cut : Reads text (Ok tokens)
-  pub grammar : IsProgram most_deep tree (pieces (record { source = text; list = tokens }))
+  pub grammar : IsProgram most_nested tree (pieces (record { source = text; list = tokens }))
 
 -- The text says this program: its tree means it.
 pub record SaysProgram (text : List ℕ) (program : Program) : Type 0 where

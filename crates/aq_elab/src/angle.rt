@@ -2,14 +2,13 @@
 ghost use Rattle.std.specs.Prelude.{◌≡◌};
 ghost use Rattle.aq_elab.specs.Angles.{is_eighths, signed, eighths_of};
 
+use aq_base::MOST_ANGLE_FACTOR;
 use aq_parse::Angle;
-
-const MOST_TIMES: u32 = 1_000_000;
 
 fn is_eighths(angle: &Angle) -> bool
     ensures { result ≡ is_eighths angle.now }
 {
-    angle.times <= MOST_TIMES && (angle.over == 1 || angle.over == 2 || angle.over == 4)
+    angle.times <= MOST_ANGLE_FACTOR && (angle.over == 1 || angle.over == 2 || angle.over == 4)
 }
 
 fn signed(minus: bool, number: u32) -> i64

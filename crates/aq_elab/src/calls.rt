@@ -1,8 +1,9 @@
 //! Gate calls: the gate by its name and angle, and its instances on registers.
 ghost use Rattle.std.specs.Prelude.{◌≡◌, ◌<◌, ◌≤◌, [], All, IfOk};
 ghost use Rattle.aq_prog.specs.Digits.{tabulate};
-ghost use Rattle.aq_prog.specs.Programs.{most_bits};
-ghost use Rattle.aq_elab.specs.Known.{Gives, all_checked};
+ghost use Rattle.aq_base.specs.Checks.{all_checked};
+ghost use Rattle.aq_base.specs.Limits.{most_bits};
+ghost use Rattle.aq_elab.specs.Known.{Gives};
 ghost use Rattle.aq_elab.specs.Bounds.{IsShort};
 ghost use Rattle.aq_elab.specs.Spots.{span_of, member};
 ghost use Rattle.aq_elab.specs.Calls.{times_of, differs, same_sizes, instance, no_repeat, played, gates_of_call};

@@ -4,12 +4,13 @@ ghost use Rattle.aq_elab.specs.Elaborated.{registers_of, program_of};
 ghost use Rattle.aq_elab.specs.Known.{Gives, nothing_known, declared_as};
 ghost use Rattle.aq_elab.specs.Annotations.{claim_number, with_claim};
 ghost use Rattle.aq_elab.specs.Bounds.{IsShort, with_name, next_span};
-ghost use Rattle.aq_prog.specs.Programs.{most_qubits, most_bits};
+ghost use Rattle.aq_base.specs.Limits.{most_bits, most_qubits};
 ghost use Rattle.aq_elab.specs.Spots.{span_of, part_of, is_role, width, width_of, member};
 ghost use Rattle.aq_elab.specs.Statements.{step, declaring, is_none_of, registered, counted, with_claims};
 ghost use Rattle.aq_elab.specs.declared.fault.ElabFault.TheVariants as faults;
 
 use crate::fault::ElabFault;
+use aq_base::{MOST_BITS, MOST_QUBITS, MOST_STATEMENTS};
 use aq_lex::{Place, Text};
 use aq_parse::{Spot, Word};
 use aq_prog::{BitRegister, Program, Stmt};
@@ -17,15 +18,6 @@ use indexmap::{IndexMap, IndexSet};
 use sqlite_items::Items;
 use std::alloc::Global;
 use std::marker::Model;
-
-/// The most qubits of a program.
-const MOST_QUBITS: u64 = 16;
-
-/// The most bits of a program.
-const MOST_BITS: u64 = 32;
-
-/// The most statements of a program, inner ones included.
-const MOST_STATEMENTS: usize = 100_000;
 
 /// What a name stands for.
 #[derive(Clone, Copy, Debug, PartialEq, Eq)]
@@ -215,7 +207,7 @@ impl Scope {
             Role::Qubit => {
                 let first = self.qubits;
                 let all = u64::from(first) + wide;
-                if all > MOST_QUBITS {
+                if all > u64::from(MOST_QUBITS) {
                     return Err(ElabFault::TooManyQubits { at: name.at });
                 }
                 let span = Span { first, size };
@@ -226,7 +218,7 @@ impl Scope {
             Role::Bit => {
                 let first = self.bits;
                 let all = u64::from(first) + wide;
-                if all > MOST_BITS {
+                if all > u64::from(MOST_BITS) {
                     return Err(ElabFault::TooManyBits { at: name.at });
                 }
                 let span = Span { first, size };

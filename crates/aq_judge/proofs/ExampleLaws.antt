@@ -16,11 +16,11 @@ use denote.Hole.Carrier.{roll}
 use Rattle.aq_prog.specs.declared.stmt.Stmt.TheVariants as stmt
 use Rattle.aq_prog.specs.declared.stmt.Stmt.TheOpen.{Stmt-F}
 use Rattle.aq_prog.specs.declared.stmt.Stmt.TheFolds.{fold-roll-Stmt}
-use Rattle.aq_set_read.specs.Sizes.{size_of}
-use Rattle.aq_set_read.specs.Valid.{IsValidExpr, IsValidSets, IsValidClaim}
-use Rattle.aq_set_read.specs.declared.sets.Expr.{Expr}
-use Rattle.aq_set_read.specs.declared.sets.Sets.{Sets}
-use Rattle.aq_set_read.specs.declared.sets.Term.{Term}
+use Rattle.aq_sets.specs.Sizes.{size_of}
+use Rattle.aq_sets.specs.Valid.{IsValidExpr, IsValidSets, IsValidClaim}
+use Rattle.aq_sets.specs.declared.sets.Expr.{Expr}
+use Rattle.aq_sets.specs.declared.sets.Sets.{Sets}
+use Rattle.aq_sets.specs.declared.sets.Term.{Term}
 use Rattle.aq_obligations.specs.Bound.{IsBoundCase}
 use Rattle.aq_obligations.specs.declared.bound.BoundCase.{BoundCase}
 use Rattle.aq_judge.specs.Bodies.{are_gates, gate_in, gate_step}

@@ -8,14 +8,14 @@ use Rattle.aq_ring.specs.Fractions.{Amplitude}
 use Rattle.aq_prog.specs.Runs.{has_bit}
 use Rattle.aq_prog.specs.declared.stmt.Guard.{Guard}
 use Rattle.aq_prog.specs.declared.program.Program.{Program}
-use Rattle.aq_set_read.specs.Sizes.{size_of}
-use Rattle.aq_set_read.specs.Valid.{IsValidSets}
-use Rattle.aq_set_read.specs.Vectors.{vectors_of, products_of}
-use Rattle.aq_set_read.specs.declared.sets.Sets.{Sets}
+use Rattle.aq_sets.specs.Sizes.{size_of}
+use Rattle.aq_sets.specs.Valid.{IsValidSets}
+use Rattle.aq_sets.specs.Vectors.{vectors_of, products_of}
+use Rattle.aq_sets.specs.declared.sets.Sets.{Sets}
 use Rattle.aq_plain.specs.Listing.{states_of}
 use Rattle.aq_plain.specs.Vectors.{StateVector}
-use Rattle.aq_plain.proofs.SizeLaws.{has_long}
-use Rattle.aq_plain.proofs.ToldLaws.{valid_exprs}
+use Rattle.aq_sets.proofs.SizeLaws.{has_long}
+use Rattle.aq_sets.proofs.ToldLaws.{valid_exprs}
 use Rattle.aq_obligations.specs.Asking.{cases_of, products_in}
 use Rattle.aq_obligations.specs.Bound.{IsBoundCase}
 use Rattle.aq_obligations.specs.Claims.{are_met}

@@ -3,12 +3,12 @@ use Rattle.std.proofs.Common.{◌≡◌, ℕ, zero, suc, ◌+◌, ◌*◌, ◌^�
 use Rattle.std.specs.List.{sum_by, count_by, range_with_len}
 use Rattle.std.proofs.lemmas.List.Sums.{sum_by-cons, sum_by-append}
 use Rattle.std.proofs.Math.Nat.{pow-le-pow_right, min-eq_left, min-eq_right}
-use Rattle.aq_set_read.specs.Sizes.{size_of, words}
-use Rattle.aq_set_read.specs.declared.sets.Sets.{Sets}
-use Rattle.aq_plain.specs.Caps.{capped, capped_size, capped_sizes}
-use Rattle.aq_plain.specs.declared.sizes.Size as told_size
-use Rattle.aq_plain.proofs.CapLaws.{capped-sum, capped-product, capped-words}
-use Rattle.aq_plain.proofs.ToldLaws.{told_at, length-told}
+use Rattle.aq_sets.specs.Sizes.{size_of, words}
+use Rattle.aq_sets.specs.declared.sets.Sets.{Sets}
+use Rattle.aq_sets.specs.Caps.{capped, capped_size, capped_sizes}
+use Rattle.aq_sets.specs.declared.sizes.Size as told_size
+use Rattle.aq_sets.proofs.CapLaws.{capped-sum, capped-product, capped-words}
+use Rattle.aq_sets.proofs.ToldLaws.{told_at, length-told}
 use Rattle.aq_prog.specs.declared.program.Program.{Program}
 use Rattle.aq_obligations.specs.Enough.{statements, outcomes, guards, conditions, all_guards, mentioned_bits, words_of, weight_of, enough}
 use Rattle.aq_obligations.specs.declared.bound.BoundCase.{BoundCase}

@@ -4,7 +4,7 @@ use Rattle.std.proofs.lemmas.List.Elements.{Contains-append_left, Contains-appen
 use Rattle.aq_ring.specs.Fractions.{Amplitude}
 use Rattle.aq_prog.specs.declared.gate.Gate.{Gate}
 use Rattle.aq_prog.specs.declared.program.Program.{Program}
-use Rattle.aq_set_read.specs.declared.sets.Sets.{Sets}
+use Rattle.aq_sets.specs.declared.sets.Sets.{Sets}
 use Rattle.aq_obligations.specs.Asking.{products_in}
 use Rattle.aq_obligations.specs.GatesOnly.{IsOfGates, starts, allowed, shown_from}
 use Rattle.aq_obligations.specs.Obligations.{Obligation, IsCounterexample}

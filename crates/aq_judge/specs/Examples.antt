@@ -6,8 +6,8 @@ use Rattle.aq_prog.specs.Gates.{IsValidGate}
 use Rattle.aq_prog.specs.declared.gate.Gate.{Gate}
 use Rattle.aq_prog.specs.declared.stmt.Stmt.{Stmt}
 use Rattle.aq_prog.specs.declared.stmt.Stmt.TheVariants as stmt
-use Rattle.aq_set_read.specs.declared.sets.Expr.{Expr}
-use Rattle.aq_set_read.specs.declared.sets.Expr.TheVariants as expr
+use Rattle.aq_sets.specs.declared.sets.Expr.{Expr}
+use Rattle.aq_sets.specs.declared.sets.Expr.TheVariants as expr
 use Rattle.aq_obligations.specs.declared.bound.BoundCase.{BoundCase}
 
 -- one gate on one qubit

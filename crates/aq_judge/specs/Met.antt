@@ -2,9 +2,9 @@
 use Rattle.std.specs.Prelude.{Bool, not, List, [], if◌then◌else◌}
 use Rattle.std.specs.List.{list_all, flat_map}
 use Rattle.aq_prog.specs.declared.stmt.Guard.{Guard}
-use Rattle.aq_set_read.specs.Sizes.{size_of}
-use Rattle.aq_set_read.specs.Vectors.{vectors_of}
-use Rattle.aq_set_read.specs.declared.sets.Sets.{Sets}
+use Rattle.aq_sets.specs.Sizes.{size_of}
+use Rattle.aq_sets.specs.Vectors.{vectors_of}
+use Rattle.aq_sets.specs.declared.sets.Sets.{Sets}
 use Rattle.aq_plain.specs.Listing.{states_of}
 use Rattle.aq_plain.specs.Vectors.{StateVector}
 use Rattle.aq_obligations.specs.declared.bound.BoundCase.{BoundCase}

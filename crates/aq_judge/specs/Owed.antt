@@ -2,8 +2,8 @@
 use Rattle.std.specs.Prelude.{◌≡◌, ℕ, true, List, All, None}
 use Rattle.aq_prog.specs.Programs.{IsValidProgram}
 use Rattle.aq_prog.specs.declared.program.Program.{Program}
-use Rattle.aq_set_read.specs.Valid.{IsValidSets}
-use Rattle.aq_set_read.specs.declared.sets.Sets.{Sets}
+use Rattle.aq_sets.specs.Valid.{IsValidSets}
+use Rattle.aq_sets.specs.declared.sets.Sets.{Sets}
 use Rattle.aq_obligations.specs.Asking.{obligation_at_end}
 use Rattle.aq_obligations.specs.Bound.{IsBoundCase}
 use Rattle.aq_obligations.specs.Enough.{Work, enough}

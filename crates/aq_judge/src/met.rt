@@ -1,7 +1,7 @@
 //! The states that cases list whose conditions hold where every bit is 0.
 ghost use Rattle.std.specs.Prelude.{◌≡◌, ◌<◌, ◌++◌, All, IfErr, IfOk, OnOk, length};
-ghost use Rattle.aq_set_read.specs.Valid.{IsValidSets};
-ghost use Rattle.aq_set_read.specs.Vectors.{products_of};
+ghost use Rattle.aq_sets.specs.Valid.{IsValidSets};
+ghost use Rattle.aq_sets.specs.Vectors.{products_of};
 ghost use Rattle.aq_obligations.specs.Asking.{products_in};
 ghost use Rattle.aq_judge.specs.Finding.{HasWide, StopsFor};
 ghost use Rattle.aq_judge.specs.Met.{asks_for_zeros, case_states, met_in, met_states};
@@ -10,7 +10,7 @@ use crate::stop::Stop;
 use aq_obligations::BoundCase;
 use aq_plain::{Vector, VectorStop, vectors};
 use aq_prog::Guard;
-use aq_set_read::Sets;
+use aq_sets::Sets;
 use sqlite_items::Items;
 use std::alloc::Global;
 

@@ -1,17 +1,16 @@
 //! How many steps are enough for a program, told up to 2^64.
 ghost use Rattle.std.specs.Prelude.{◌≡◌, ◌+◌, ◌^◌, ◌<◌, ◌||◌, ◌*◌, ◌≤◌, suc, ℕ, if◌then◌else◌, All, IfOk, length};
 ghost use Rattle.std.specs.List.{sum_by, count_by, range_with_len};
-ghost use Rattle.aq_set_read.specs.declared.sets.Sets.{Sets as SetsValue};
-ghost use Rattle.aq_set_read.specs.Valid.{IsValidSets};
-ghost use Rattle.aq_plain.specs.Caps.{capped, capped_sizes};
+ghost use Rattle.aq_sets.specs.declared.sets.Sets.{Sets as SetsValue};
+ghost use Rattle.aq_sets.specs.Valid.{IsValidSets};
+ghost use Rattle.aq_sets.specs.Caps.{capped, capped_sizes};
 ghost use Rattle.aq_obligations.specs.Enough.{statements, outcomes, guards, conditions, words_of, weight_of};
 ghost use Rattle.aq_judge.specs.Owed.{steps_of};
 ghost use Rattle.aq_judge.specs.Counting.{guards_of, is_named, is_named_in};
 
 use aq_obligations::BoundCase;
-use aq_plain::{Size, capped_product, capped_sum, sizes_of};
 use aq_prog::{Guard, Program, Stmt};
-use aq_set_read::Sets;
+use aq_sets::{Sets, Size, capped_product, capped_sum, sizes_of};
 use std::alloc::{AllocError, Global};
 
 /// The statements, inner ones included.

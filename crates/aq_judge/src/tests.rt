@@ -2,7 +2,7 @@
 ghost use Rattle.std.specs.Prelude.{◌≡◌, ◌<◌, ◌≤◌, true, All, IfOk, length};
 ghost use Rattle.aq_prog.specs.Gates.{AreEntries};
 ghost use Rattle.aq_prog.specs.Programs.{IsValidProgram};
-ghost use Rattle.aq_set_read.specs.Valid.{IsValidSets};
+ghost use Rattle.aq_sets.specs.Valid.{IsValidSets};
 ghost use Rattle.aq_judge.specs.Bodies.{are_gates};
 ghost use Rattle.aq_judge.specs.Examples.{IsOneGate, IsSmallCase, both_kets, one_ket, table};
 
@@ -12,7 +12,7 @@ use aq_obligations::BoundCase;
 use aq_prog::{BitRegister, Entry, Gate, Guard, Program, Stmt, gate_named};
 use aq_report::{Verdict, Why};
 use aq_ring::Amp;
-use aq_set_read::{Expr, Sets, Term};
+use aq_sets::{Expr, Sets, Term};
 use sqlite_items::Items;
 use std::alloc::Global;
 use std::test::Fail;

@@ -14,7 +14,7 @@ use crate::stop::Stop;
 use aq_obligations::BoundCase;
 use aq_prog::Program;
 use aq_report::{Verdict, Why};
-use aq_set_read::Sets;
+use aq_sets::Sets;
 use std::alloc::Global;
 
 /// Judges the program, however many steps that takes.

@@ -4,19 +4,21 @@ use Rattle.std.specs.List.{find}
 use Rattle.std.specs.Str.{bytes_eq}
 use Rattle.std.proofs.lemmas.Bool.Decides.{nat_tests}
 use Rattle.std.proofs.lemmas.List.Elements.{All-cons, All-head, All-nil, All-tail, All-weaker}
-use Rattle.aq_prog.specs.Programs.{AreInRow, IsValidProgram, most_bits}
+use Rattle.aq_base.specs.Checks.{all_checked, or_refuse, ◌>>=◌}
+use Rattle.aq_base.specs.Limits.{most_bits}
+use Rattle.aq_prog.specs.Programs.{AreInRow, IsValidProgram}
 use Rattle.aq_prog.specs.declared.program.BitRegister.{BitRegister}
 use Rattle.aq_prog.specs.declared.program.Program.{Program}
 use Rattle.aq_prog.specs.declared.stmt.Guard.{Guard}
-use Rattle.aq_set_read.specs.Tables.{table, at_position}
-use Rattle.aq_set_read.specs.Sizes.{size_of, size_step}
-use Rattle.aq_set_read.specs.Valid.{IsValidClaim, IsValidSets}
-use Rattle.aq_set_read.specs.declared.sets.Case.{Case}
-use Rattle.aq_set_read.specs.declared.sets.Cond.{Cond}
-use Rattle.aq_set_read.specs.declared.sets.Expr.{Expr}
-use Rattle.aq_set_read.specs.declared.sets.NamedClaim.{NamedClaim}
-use Rattle.aq_set_read.specs.declared.sets.Sets.{Sets}
-use Rattle.aq_obligations.specs.Bound.{Checked, ◌>>=◌, or_refuse, all_checked, bit_of, bit_in, register_named, guard_on, bound_cond, bound_case, bound_claim, bound_claims, Asked, asked, AreShort, Gives, IsBoundCase}
+use Rattle.aq_sets.specs.Tables.{table, at_position}
+use Rattle.aq_sets.specs.Sizes.{size_of, size_step}
+use Rattle.aq_sets.specs.Valid.{IsValidClaim, IsValidSets}
+use Rattle.aq_sets.specs.declared.sets.Case.{Case}
+use Rattle.aq_sets.specs.declared.sets.Cond.{Cond}
+use Rattle.aq_sets.specs.declared.sets.Expr.{Expr}
+use Rattle.aq_sets.specs.declared.sets.NamedClaim.{NamedClaim}
+use Rattle.aq_sets.specs.declared.sets.Sets.{Sets}
+use Rattle.aq_obligations.specs.Bound.{Checked, bit_of, bit_in, register_named, guard_on, bound_cond, bound_case, bound_claim, bound_claims, Asked, asked, AreShort, Gives, IsBoundCase}
 use Rattle.aq_obligations.specs.Qubits.{AreQubits}
 use Rattle.aq_obligations.specs.declared.bound.BoundCase.{BoundCase}
 use Rattle.aq_obligations.specs.declared.bound.ClaimFault.{ClaimFault}

@@ -7,14 +7,14 @@ use Rattle.aq_prog.specs.Programs.{IsValidProgram, IsValidStmt}
 use Rattle.aq_prog.specs.declared.program.BitRegister.{BitRegister}
 use Rattle.aq_prog.specs.declared.program.Program.{Program}
 use Rattle.aq_prog.specs.declared.stmt.Stmt.{Stmt}
-use Rattle.aq_set_read.specs.Sizes.{size_of}
-use Rattle.aq_set_read.specs.Valid.{IsValidClaim, IsValidExpr, IsValidSets}
-use Rattle.aq_set_read.specs.declared.sets.Cond.{Cond}
-use Rattle.aq_set_read.specs.declared.sets.Expr.{Expr}
-use Rattle.aq_set_read.specs.declared.sets.Expr.TheVariants as expr
-use Rattle.aq_set_read.specs.declared.sets.NamedClaim.{NamedClaim}
-use Rattle.aq_set_read.specs.declared.sets.NamedSet.{NamedSet}
-use Rattle.aq_set_read.specs.declared.sets.Sets.{Sets}
+use Rattle.aq_sets.specs.Sizes.{size_of}
+use Rattle.aq_sets.specs.Valid.{IsValidClaim, IsValidExpr, IsValidSets}
+use Rattle.aq_sets.specs.declared.sets.Cond.{Cond}
+use Rattle.aq_sets.specs.declared.sets.Expr.{Expr}
+use Rattle.aq_sets.specs.declared.sets.Expr.TheVariants as expr
+use Rattle.aq_sets.specs.declared.sets.NamedClaim.{NamedClaim}
+use Rattle.aq_sets.specs.declared.sets.NamedSet.{NamedSet}
+use Rattle.aq_sets.specs.declared.sets.Sets.{Sets}
 
 abbrev pub register : List ℕ → ℕ → ℕ → Bool → BitRegister
 register name first size indexed = record { name = name; first = first; size = size; indexed = indexed }

@@ -18,7 +18,7 @@ use Rattle.aq_prog.specs.declared.stmt.Guard.{Guard}
 use Rattle.aq_prog.specs.declared.stmt.Stmt.{Stmt}
 use Rattle.aq_prog.specs.declared.stmt.Stmt.TheVariants as stmt
 use Rattle.aq_prog.proofs.RunLaws.{gates_alone}
-use Rattle.aq_set_read.specs.declared.sets.Sets.{Sets}
+use Rattle.aq_sets.specs.declared.sets.Sets.{Sets}
 use Rattle.aq_obligations.specs.Asking.{annotated, obligation_at_end}
 use Rattle.aq_obligations.specs.Bound.{Asked}
 use Rattle.aq_obligations.specs.Claims.{ClaimCase, are_met, Holds}

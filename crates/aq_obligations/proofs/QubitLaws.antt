@@ -3,14 +3,14 @@ use Rattle.std.proofs.Common.{◌≡◌, ℕ, ◌+◌, ◌*◌, ◌≤◌, List,
 use Rattle.std.specs.Prelude.{slice_get}
 use Rattle.std.proofs.Math.ListN.{get_or-map}
 use Rattle.std.proofs.lemmas.Option.{slice_get_within}
-use Rattle.aq_set_read.specs.Gathered.{most_qubits}
-use Rattle.aq_set_read.specs.Tables.{table, at_position}
-use Rattle.aq_set_read.specs.Sizes.{Size, no_size, size_step, size_of}
+use Rattle.aq_base.specs.Limits.{most_qubits}
+use Rattle.aq_sets.specs.Tables.{table, at_position}
+use Rattle.aq_sets.specs.Sizes.{Size, no_size, size_step, size_of}
 use Rattle.aq_obligations.specs.Qubits.{qubits_step}
-use Rattle.aq_set_read.specs.Valid.{IsValidSets}
-use Rattle.aq_set_read.specs.declared.sets.Expr.{Expr}
-use Rattle.aq_set_read.specs.declared.sets.Expr.TheVariants as expr
-use Rattle.aq_set_read.specs.declared.sets.Sets.{Sets}
+use Rattle.aq_sets.specs.Valid.{IsValidSets}
+use Rattle.aq_sets.specs.declared.sets.Expr.{Expr}
+use Rattle.aq_sets.specs.declared.sets.Expr.TheVariants as expr
+use Rattle.aq_sets.specs.declared.sets.Sets.{Sets}
 use Rattle.aq_obligations.proofs.TableLaws.{at_step}
 
 abbrev pub qubits_in : List Size → List ℕ

@@ -5,8 +5,8 @@ use Rattle.std.specs.List.{fold}
 use Rattle.std.proofs.lemmas.List.{get_or_append_left, get_or_push, length-take-le, length_push, take-append-drop, drop_more}
 use Rattle.std.proofs.lemmas.List.Sums.{fold-append, fold_push}
 use Rattle.std.proofs.lemmas.Option.{slice_get_within, get_or_from_slice_get}
-use Rattle.aq_set_read.specs.Tables.{table, at_position}
-use Rattle.aq_set_read.specs.declared.sets.Expr.{Expr}
+use Rattle.aq_sets.specs.Tables.{table, at_position}
+use Rattle.aq_sets.specs.declared.sets.Expr.{Expr}
 
 -- a table that goes on behind what is done
 abbrev pub grown : {A : Type 0} → (List A → Expr → A) → List A → List Expr → List A

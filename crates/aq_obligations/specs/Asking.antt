@@ -3,8 +3,8 @@ use Rattle.std.specs.Prelude.{true, List, [], ◌++◌, map, None}
 use Rattle.std.specs.List.{flat_map}
 use Rattle.aq_ring.specs.Fractions.{Amplitude}
 use Rattle.aq_prog.specs.declared.program.Program.{Program}
-use Rattle.aq_set_read.specs.Vectors.{vectors_of, products_of}
-use Rattle.aq_set_read.specs.declared.sets.Sets.{Sets}
+use Rattle.aq_sets.specs.Vectors.{vectors_of, products_of}
+use Rattle.aq_sets.specs.declared.sets.Sets.{Sets}
 use Rattle.aq_obligations.specs.Bound.{Asked}
 use Rattle.aq_obligations.specs.Claims.{ClaimCase}
 use Rattle.aq_obligations.specs.Correct.{Annotated}

@@ -2,36 +2,23 @@
 use Rattle.std.specs.Prelude.{◌≡◌, ℕ, ◌+◌, ◌<◌, ◌≤◌, ◌==◌, Bool, ◌&&◌, List, [], ◌∷◌, All, length, Option, Some, None, Result, Ok, Err, nat_lt, if◌then◌else◌}
 use Rattle.std.specs.List.{find}
 use Rattle.std.specs.Str.{bytes_eq}
-use Rattle.aq_prog.specs.Programs.{most_bits}
+use Rattle.aq_base.specs.Checks.{CheckedBy, GivesUnless, all_checked, or_refuse, ◌>>=◌}
+use Rattle.aq_base.specs.Limits.{most_bits}
 use Rattle.aq_prog.specs.declared.program.BitRegister.{BitRegister}
 use Rattle.aq_prog.specs.declared.program.Program.{Program}
 use Rattle.aq_prog.specs.declared.stmt.Guard.{Guard}
-use Rattle.aq_set_read.specs.Sizes.{size_of}
-use Rattle.aq_set_read.specs.declared.sets.Cond.{Cond}
-use Rattle.aq_set_read.specs.declared.sets.Case.{Case}
-use Rattle.aq_set_read.specs.declared.sets.NamedClaim.{NamedClaim}
-use Rattle.aq_set_read.specs.declared.sets.Sets.{Sets}
+use Rattle.aq_sets.specs.Sizes.{size_of}
+use Rattle.aq_sets.specs.declared.sets.Cond.{Cond}
+use Rattle.aq_sets.specs.declared.sets.Case.{Case}
+use Rattle.aq_sets.specs.declared.sets.NamedClaim.{NamedClaim}
+use Rattle.aq_sets.specs.declared.sets.Sets.{Sets}
 use Rattle.aq_obligations.specs.declared.bound.AskedClaims.{AskedClaims}
 use Rattle.aq_obligations.specs.declared.bound.BoundCase.{BoundCase}
 use Rattle.aq_obligations.specs.declared.bound.ClaimFault.{ClaimFault}
 use Rattle.aq_obligations.specs.declared.bound.ClaimFault.TheVariants as faults
 
 abbrev pub Checked : Type 0 → Type 0
-Checked A = Result A ClaimFault
-
-infixl 10 ◌>>=◌
-abbrev pub ◌>>=◌ : {A B : Type 0} → Checked A → (A → Checked B) → Checked B
-(Ok x) >>= f = f x
-(Err e) >>= f = Err e
-
-abbrev pub or_refuse : {A : Type 0} → ClaimFault → Option A → Checked A
-or_refuse fault (Some x) = Ok x
-or_refuse fault None = Err fault
-
--- each in order, up to the first fault
-abbrev pub all_checked : {A B : Type 0} → (A → Checked B) → List A → Checked (List B)
-all_checked f [] = Ok []
-all_checked f (x ∷ xs) = f x >>= λ y. all_checked f xs >>= λ ys. Ok (y ∷ ys)
+Checked = CheckedBy ClaimFault
 
 -- the bit of a register: without an index it is to have one bit, and an index is to be one of a register with a size
 abbrev pub bit_of : Option ℕ → BitRegister → Option ℕ
@@ -91,8 +78,7 @@ asked p s pre post =
 -- ---- what a function of the program answers: the same, unless memory ran out
 
 abbrev pub Gives : {A B : Type 0} → (B → A) → Result B ClaimFault → Checked A → Type 0
-Gives view (Ok x) wanted = wanted ≡ Ok (view x)
-Gives view (Err e) wanted = (e ≡ faults.Memory → ⊥) → wanted ≡ Err e
+Gives = GivesUnless faults.Memory
 
 -- ---- what is known of a case that was looked up
 

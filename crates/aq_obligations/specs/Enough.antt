@@ -4,8 +4,8 @@ use Rattle.std.specs.List.{sum, sum_by, count_by, list_any, flat_map, range_with
 use Rattle.aq_prog.specs.declared.stmt.Guard.{Guard}
 use Rattle.aq_prog.specs.declared.stmt.Stmt.{Stmt, fold-Stmt}
 use Rattle.aq_prog.specs.declared.stmt.Stmt.TheOpen.{Stmt-F}
-use Rattle.aq_set_read.specs.Sizes.{size_of, words}
-use Rattle.aq_set_read.specs.declared.sets.Sets.{Sets}
+use Rattle.aq_sets.specs.Sizes.{size_of, words}
+use Rattle.aq_sets.specs.declared.sets.Sets.{Sets}
 use Rattle.aq_obligations.specs.Worlds.{given_guards}
 use Rattle.aq_obligations.specs.declared.bound.BoundCase.{BoundCase}
 

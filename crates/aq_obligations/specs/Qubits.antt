@@ -1,9 +1,9 @@
 -- On how many qubits expressions are, from those of the expressions before them.
 use Rattle.std.specs.Prelude.{◌≡◌, ℕ, ◌+◌, ◌*◌, List}
-use Rattle.aq_set_read.specs.Tables.{at_position}
-use Rattle.aq_set_read.specs.Sizes.{size_of}
-use Rattle.aq_set_read.specs.declared.sets.Expr.{Expr}
-use Rattle.aq_set_read.specs.declared.sets.Expr.TheVariants as expr
+use Rattle.aq_sets.specs.Tables.{at_position}
+use Rattle.aq_sets.specs.Sizes.{size_of}
+use Rattle.aq_sets.specs.declared.sets.Expr.{Expr}
+use Rattle.aq_sets.specs.declared.sets.Expr.TheVariants as expr
 
 abbrev pub qubits_step : List ℕ → Expr → ℕ
 qubits_step done (expr.Kets qubits terms) = qubits

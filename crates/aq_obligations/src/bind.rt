@@ -2,17 +2,19 @@
 ghost use Rattle.std.specs.Prelude.{◌≡◌, ◌≤◌, ◌+◌, All, IfOk, option_copied};
 ghost use Rattle.std.specs.List.{find};
 ghost use Rattle.std.specs.Str.{bytes_eq};
-ghost use Rattle.aq_prog.specs.Programs.{IsValidProgram, most_bits};
-ghost use Rattle.aq_set_read.specs.Valid.{IsValidSets};
+ghost use Rattle.aq_base.specs.Checks.{all_checked};
+ghost use Rattle.aq_base.specs.Limits.{most_bits};
+ghost use Rattle.aq_prog.specs.Programs.{IsValidProgram};
+ghost use Rattle.aq_sets.specs.Valid.{IsValidSets};
 ghost use Rattle.aq_obligations.specs.Qubits.{AreQubits};
-ghost use Rattle.aq_obligations.specs.Bound.{Gives, bit_of, bit_in, register_named, bound_cond, all_checked, bound_case, bound_claim, claim_named, bound_claims, asked, AreShort, IsBoundCase};
+ghost use Rattle.aq_obligations.specs.Bound.{Gives, bit_of, bit_in, register_named, bound_cond, bound_case, bound_claim, claim_named, bound_claims, asked, AreShort, IsBoundCase};
 ghost use Rattle.aq_obligations.specs.declared.bound.ClaimFault.TheVariants as faults;
 
 use crate::bound::{AskedClaims, BoundCase, ClaimFault};
 use crate::qubits::{at_position, qubits_of_all};
 use aq_lex::Text;
 use aq_prog::{BitRegister, Guard, Program};
-use aq_set_read::{Case, Cond, NamedClaim, Sets};
+use aq_sets::{Case, Cond, NamedClaim, Sets};
 use sqlite_items::Items;
 use std::alloc::{AllocError, Global};
 

@@ -1,12 +1,12 @@
 //! On how many qubits expressions are.
 ghost use Rattle.std.specs.Prelude.{◌≡◌, ◌≤◌, IfOk, map};
-ghost use Rattle.aq_set_read.specs.Gathered.{most_qubits};
-ghost use Rattle.aq_set_read.specs.Tables.{table, at_position};
-ghost use Rattle.aq_set_read.specs.Sizes.{size_step};
-ghost use Rattle.aq_set_read.specs.Valid.{IsValidSets};
+ghost use Rattle.aq_base.specs.Limits.{most_qubits};
+ghost use Rattle.aq_sets.specs.Tables.{table, at_position};
+ghost use Rattle.aq_sets.specs.Sizes.{size_step};
+ghost use Rattle.aq_sets.specs.Valid.{IsValidSets};
 ghost use Rattle.aq_obligations.specs.Qubits.{qubits_step};
 
-use aq_set_read::{Expr, Sets};
+use aq_sets::{Expr, Sets};
 use sqlite_items::Items;
 use std::alloc::{AllocError, Global};
 

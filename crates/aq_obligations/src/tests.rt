@@ -1,11 +1,11 @@
 ghost use Rattle.std.specs.Prelude.{◌≡◌, ◌<◌, ◌∷◌, [], IfOk};
 ghost use Rattle.aq_prog.specs.Programs.{IsValidProgram};
-ghost use Rattle.aq_set_read.specs.Valid.{IsValidSets};
+ghost use Rattle.aq_sets.specs.Valid.{IsValidSets};
 
 use crate::{AskedClaims, ClaimFault, ask};
 use aq_lex::Text;
 use aq_prog::{BitRegister, Guard, Program};
-use aq_set_read::{Case, Cond, Expr, NamedClaim, NamedSet, Sets};
+use aq_sets::{Case, Cond, Expr, NamedClaim, NamedSet, Sets};
 use sqlite_items::Items;
 use std::alloc::Global;
 use std::test::Fail;

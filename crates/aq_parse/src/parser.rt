@@ -1,4 +1,5 @@
 ghost use Rattle.std.specs.Prelude.{◌≡◌, IfOk, IfErr};
+ghost use Rattle.aq_base.specs.Limits.{most_nested};
 ghost use Rattle.aq_parse.specs.Pieces.{pieces};
 ghost use Rattle.aq_parse.specs.Grammar.{IsProgram};
 ghost use Rattle.aq_parse.specs.Verdict.{EndsInEnd, FaultOf, GivesTree, Tells, text_of};
@@ -17,6 +18,7 @@ use std::alloc::{AllocError, Global};
 
 impl From<AllocError> for ParseFault {
     ghost use Rattle.std.specs.Prelude.{◌≡◌};
+ghost use Rattle.aq_base.specs.Limits.{most_nested};
     ghost use Rattle.aq_parse.specs.declared.fault.ParseFault.TheVariants.{Memory};
 
     ghost from_gives = { λ _ e. e ≡ Memory };
@@ -64,9 +66,9 @@ fn told<'a>(alloc: Global, fault: Fault, rest: &'a [Lexeme<'a>]) -> ParseFault
 
 fn tree_of_list<'a>(alloc: Global, list: &'a [Lexeme<'a>]) -> Result<Tree, ParseFault>
     requires { EndsInEnd list.now }
-    ensures tree { IfOk result (λ tree. IsProgram 64 tree list.now) }
-    ensures only { (tree : Tree) → IsProgram 64 tree list.now → GivesTree result tree }
-    ensures fault { IfErr result (λ e. FaultOf 64 e list.now) }
+    ensures tree { IfOk result (λ tree. IsProgram most_nested tree list.now) }
+    ensures only { (tree : Tree) → IsProgram most_nested tree list.now → GivesTree result tree }
+    ensures fault { IfErr result (λ e. FaultOf most_nested e list.now) }
 {
     match whole(alloc, list) {
         Ok(tree) => Ok(tree),
@@ -78,11 +80,11 @@ fn tree_of_list<'a>(alloc: Global, list: &'a [Lexeme<'a>]) -> Result<Tree, Parse
 /// The tree of a program's tokens by the grammar, in which bodies nest at most 64 deep; or the first fault, at its token.
 pub fn parse(alloc: Global, tokens: &Tokens<'_>) -> Result<Tree, ParseFault>
     // What is found is a tree of the tokens.
-    ensures tree { IfOk result (λ tree. IsProgram 64 tree (pieces tokens.now)) }
+    ensures tree { IfOk result (λ tree. IsProgram most_nested tree (pieces tokens.now)) }
     // Tokens that have a tree give it, unless memory runs out; so they have one at most.
-    ensures only { (tree : Tree) → IsProgram 64 tree (pieces tokens.now) → GivesTree result tree }
+    ensures only { (tree : Tree) → IsProgram most_nested tree (pieces tokens.now) → GivesTree result tree }
     // A fault is the first one; it stands at a token, and has its place and its text.
-    ensures fault { IfErr result (λ e. FaultOf 64 e (pieces tokens.now)) }
+    ensures fault { IfErr result (λ e. FaultOf most_nested e (pieces tokens.now)) }
 {
     let list = lexemes(alloc, tokens)?;
     tree_of_list(alloc, list.as_slice())

@@ -1,4 +1,5 @@
 ghost use Rattle.std.specs.Prelude.{◌≡◌, []};
+ghost use Rattle.aq_base.specs.Limits.{most_nested};
 ghost use Rattle.aq_grammar.specs.Readers.{many, optional};
 ghost use Rattle.aq_grammar.specs.Results.{Gives};
 ghost use Rattle.aq_parse.specs.Tokens.{begins};
@@ -13,6 +14,7 @@ use crate::reader::{
 };
 use crate::simple::simple;
 use crate::tree::{Item, Node, Note, Tree};
+use aq_base::MOST_NESTED;
 use aq_grammar::Stop;
 use sqlite_items::Items;
 use std::alloc::Global;
@@ -218,15 +220,12 @@ fn program<'a>(
     Ok((Tree { items, end }, rest))
 }
 
-/// How deep bodies may nest.
-const DEEPEST: u32 = 64;
-
 /// A program, and nothing behind it.
 #[tactic(auto, unfolding(crate::specs::Reading::whole_at))]
 pub(crate) fn whole<'a>(alloc: Global, tokens: &'a [Lexeme<'a>]) -> Result<Tree, Halt<'a>>
-    ensures { Gives (λ tree. (tree, [])) result (whole_at 64 tokens.now) }
+    ensures { Gives (λ tree. (tree, [])) result (whole_at most_nested tokens.now) }
 {
-    let (tree, rest) = program(alloc, tokens, DEEPEST)?;
+    let (tree, rest) = program(alloc, tokens, MOST_NESTED)?;
     if !rest.is_empty() {
         return Err(Stop::At(Fault::Unexpected, rest));
     }

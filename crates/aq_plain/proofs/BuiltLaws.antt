@@ -7,18 +7,18 @@ use Rattle.std.proofs.lemmas.List.{length_push, take_at}
 use Rattle.std.proofs.Math.Nat.{one-le-mul}
 use Rattle.std.proofs.lemmas.List.Elements.{All-nil, All-cons}
 use Rattle.std.proofs.lemmas.Option.{slice_get_within, same_Some}
-use Rattle.aq_set_read.specs.Tables.{table, at_position}
-use Rattle.aq_set_read.specs.Sizes.{Size, no_size, size_step, size_of}
-use Rattle.aq_set_read.specs.Valid.{IsValidExpr, IsValidClaim, IsValidSets}
-use Rattle.aq_set_read.specs.declared.sets.Term.{Term}
-use Rattle.aq_set_read.specs.declared.sets.Expr.{Expr}
-use Rattle.aq_set_read.specs.declared.sets.Expr.TheVariants as expr
-use Rattle.aq_set_read.specs.declared.sets.NamedSet.{NamedSet}
-use Rattle.aq_set_read.specs.declared.sets.NamedClaim.{NamedClaim}
-use Rattle.aq_set_read.specs.declared.sets.Sets.{Sets}
-use Rattle.aq_plain.specs.ValidExprs.{AreValidExprs}
-use Rattle.aq_plain.proofs.TableLaws.{earlier}
-use Rattle.aq_plain.proofs.ExprLaws.{tensor_size, union_size, power_size, size_by, size-is}
+use Rattle.aq_sets.specs.Tables.{table, at_position}
+use Rattle.aq_sets.specs.Sizes.{Size, no_size, size_step, size_of}
+use Rattle.aq_sets.specs.Valid.{IsValidExpr, IsValidClaim, IsValidSets}
+use Rattle.aq_sets.specs.declared.sets.Term.{Term}
+use Rattle.aq_sets.specs.declared.sets.Expr.{Expr}
+use Rattle.aq_sets.specs.declared.sets.Expr.TheVariants as expr
+use Rattle.aq_sets.specs.declared.sets.NamedSet.{NamedSet}
+use Rattle.aq_sets.specs.declared.sets.NamedClaim.{NamedClaim}
+use Rattle.aq_sets.specs.declared.sets.Sets.{Sets}
+use Rattle.aq_sets.specs.ValidExprs.{AreValidExprs}
+use Rattle.aq_sets.proofs.TableLaws.{earlier}
+use Rattle.aq_sets.proofs.ExprLaws.{tensor_size, union_size, power_size, size_by, size-is}
 
 slice_get_front : {A : Type 0} (xs : List A) (y : A) (i : ℕ) → i < length xs → slice_get (xs ++ y ∷ []) i ≡ slice_get xs i
 slice_get_front [] y i lt = absurd (omega arith)

@@ -1,14 +1,8 @@
 pub mod PairLaws
 pub mod HalfLaws
 pub mod ValidLaws
-pub mod TableLaws
-pub mod ExprLaws
-pub mod CapLaws
-pub mod SizeLaws
-pub mod ToldLaws
 pub mod RowLaws
 pub mod PartLaws
 pub mod TakeLaws
 pub mod WholeLaws
 pub mod BuiltLaws
-pub mod PlaceLaws

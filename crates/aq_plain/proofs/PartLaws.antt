@@ -7,15 +7,15 @@ use Rattle.std.proofs.lemmas.List.{append_assoc, append-nil, take_more, take_all
 use Rattle.std.proofs.lemmas.List.Elements.{All-nil, All-cons, All-pop}
 use Rattle.std.proofs.lemmas.Option.{slice_get_within, same_Some}
 use Rattle.std.proofs.lemmas.Bool.{eqb-false}
-use Rattle.aq_set_read.specs.Vectors.{Vector, Listed, nothing_listed, listed, united, power, tensors, all_pairs, kets_vector, basis, lists}
-use Rattle.aq_set_read.specs.Sizes.{Size, size_of}
-use Rattle.aq_set_read.specs.declared.sets.Term.{Term}
-use Rattle.aq_set_read.specs.declared.sets.Expr.{Expr}
-use Rattle.aq_set_read.specs.declared.sets.Expr.TheVariants as expr
-use Rattle.aq_plain.specs.ValidExprs.{AreValidExprs}
+use Rattle.aq_sets.specs.Vectors.{Vector, Listed, nothing_listed, listed, united, power, tensors, all_pairs, kets_vector, basis, lists}
+use Rattle.aq_sets.specs.Sizes.{Size, size_of}
+use Rattle.aq_sets.specs.declared.sets.Term.{Term}
+use Rattle.aq_sets.specs.declared.sets.Expr.{Expr}
+use Rattle.aq_sets.specs.declared.sets.Expr.TheVariants as expr
+use Rattle.aq_sets.specs.ValidExprs.{AreValidExprs}
 use Rattle.aq_plain.specs.Listing.{lists_in_turn, IsWhole, IsPartOf, opened, kept, AllFit, StopsAmong}
 use Rattle.aq_plain.specs.declared.stop.VectorStop.{VectorStop}
-use Rattle.aq_plain.proofs.ExprLaws.{lists-is, size-is}
+use Rattle.aq_sets.proofs.ExprLaws.{lists-is, size-is, some_times}
 use Rattle.aq_plain.proofs.TakeLaws.{fit_none, fit_append, fit_same, fit_power, stops_left, stops_right, stops_same, stops_power, stops_power_of, power_vectors}
 
 -- what the work lists that is put off, from the last position to the first
@@ -103,13 +103,6 @@ opened_below exprs valid top i (expr.Power base times) h le =
 fewer_power : (exprs : List Expr) (n base times : ℕ) (b : Bool) → 0 < times → n ≡ times + (size_of exprs base).nodes → nodes_in exprs (cond b (base ∷ []) []) < n
 fewer_power exprs n base times true some e = omega arith
 fewer_power exprs n base times false some e = omega arith
-
-pub some_times : (exprs : List Expr) → AreValidExprs exprs → (i base times : ℕ) → slice_get exprs i ≡ Some (expr.Power base times) → 0 < times
-some_times exprs valid i base zero h =
-    let s = ap (λ (z : Size). z.qubits) (size-is exprs i (expr.Power base zero) h (valid.each i (expr.Power base zero) h)) in
-    let some = (valid.qubits i (slice_get_within exprs i (expr.Power base zero) h)).0 in
-    absurd (omega arith)
-some_times exprs valid i base (suc times) h = omega arith
 
 pub fewer_nodes : (exprs : List Expr) → AreValidExprs exprs → (i : ℕ) (e : Expr) → slice_get exprs i ≡ Some e → nodes_in exprs (opened e) < (size_of exprs i).nodes
 fewer_nodes exprs valid i (expr.Kets qubits terms) h =

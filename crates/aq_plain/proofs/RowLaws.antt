@@ -9,9 +9,9 @@ use Rattle.std.proofs.lemmas.List.{get_or-set_same, get_or-set_other, length-set
 use Rattle.std.proofs.lemmas.List.FromFn.{fill_by_all, get_or-map-range_with_len}
 use Rattle.aq_ring.specs.Fractions.{Amplitude}
 use Rattle.aq_ring.specs.Amplitudes.{amplitude_zero, amplitude_one}
-use Rattle.aq_set_read.specs.Vectors.{kets_entry, kets_vector, basis_vector}
-use Rattle.aq_set_read.specs.declared.sets.Term.{Term}
-use Rattle.aq_plain.proofs.SizeLaws.{length-kets_vector}
+use Rattle.aq_sets.specs.Vectors.{kets_entry, kets_vector, basis_vector}
+use Rattle.aq_sets.specs.declared.sets.Term.{Term}
+use Rattle.aq_sets.proofs.SizeLaws.{length-kets_vector}
 
 -- what is chosen where the test is known
 chosen : {A : Type 0} (b : Bool) (x y : A) → b ≡ true → cond b x y ≡ x

@@ -7,7 +7,7 @@ use Rattle.std.proofs.lemmas.List.Concat.{flat_map-append}
 use Rattle.std.proofs.lemmas.List.Elements.{All-nil, All-cons, All-append, All-take, All-drop, Contains-append_left, Contains-append_right, Contains-append_cases}
 use Rattle.aq_ring.specs.Fractions.{Amplitude}
 use Rattle.aq_ring.specs.Amplitudes.{product, FitsAmplitudeProduct}
-use Rattle.aq_set_read.specs.Vectors.{Vector, Listed, listed, tensor, tensors, all_pairs, power}
+use Rattle.aq_sets.specs.Vectors.{Vector, Listed, listed, tensor, tensors, all_pairs, power}
 use Rattle.aq_plain.specs.Listing.{Operands, AllFit, IsWideAmong, StopsAmong}
 use Rattle.aq_plain.specs.declared.stop.VectorStop.{VectorStop}
 use Rattle.aq_plain.specs.declared.stop.VectorStop.TheVariants as stop

@@ -1,15 +1,15 @@
 -- The vectors of an expression, once its size is told.
 use Rattle.std.proofs.Common.{◌≡◌, ℕ, ◌^◌, ◌<◌, ◌≤◌, List, Err, length, sym, subst, arith}
 use Rattle.std.specs.List.{All}
-use Rattle.aq_set_read.specs.Vectors.{Vector, vectors_of, products_of}
-use Rattle.aq_set_read.specs.Sizes.{size_of}
-use Rattle.aq_set_read.specs.declared.sets.Expr.{Expr}
-use Rattle.aq_plain.specs.Caps.{capped}
-use Rattle.aq_plain.specs.ValidExprs.{AreValidExprs}
+use Rattle.aq_sets.specs.Vectors.{Vector, vectors_of, products_of}
+use Rattle.aq_sets.specs.Sizes.{size_of}
+use Rattle.aq_sets.specs.declared.sets.Expr.{Expr}
+use Rattle.aq_sets.specs.Caps.{capped}
+use Rattle.aq_sets.specs.ValidExprs.{AreValidExprs}
 use Rattle.aq_plain.specs.Listing.{StopsAmong, VectorsGive}
 use Rattle.aq_plain.specs.declared.stop.VectorStop.{VectorStop}
 use Rattle.aq_plain.specs.declared.stop.VectorStop.TheVariants as stop
-use Rattle.aq_plain.proofs.SizeLaws.{IsLong, has_count, has_long}
+use Rattle.aq_sets.proofs.SizeLaws.{IsLong, has_count, has_long}
 
 pub too_many : (exprs : List Expr) → AreValidExprs exprs → (i n most : ℕ) → i < length exprs → n ≡ capped (size_of exprs i).count → most < n → most < length (vectors_of exprs i)
 too_many exprs valid i n most lt e h = let c = has_count exprs valid i lt in omega arith

@@ -3,10 +3,10 @@ use Rattle.std.specs.Prelude.{◌≡◌, ℕ, ◌<◌, ◌≤◌, ◌==◌, List
 use Rattle.std.specs.List.{Contains}
 use Rattle.aq_ring.specs.Fractions.{Amplitude}
 use Rattle.aq_ring.specs.Amplitudes.{FitsAmplitudeProduct}
-use Rattle.aq_set_read.specs.Vectors.{Vector, Listed, nothing_listed, united, lists, vectors_of, products_of}
-use Rattle.aq_set_read.specs.Sizes.{size_of}
-use Rattle.aq_set_read.specs.declared.sets.Expr.{Expr}
-use Rattle.aq_set_read.specs.declared.sets.Expr.TheVariants as expr
+use Rattle.aq_sets.specs.Vectors.{Vector, Listed, nothing_listed, united, lists, vectors_of, products_of}
+use Rattle.aq_sets.specs.Sizes.{size_of}
+use Rattle.aq_sets.specs.declared.sets.Expr.{Expr}
+use Rattle.aq_sets.specs.declared.sets.Expr.TheVariants as expr
 use Rattle.aq_plain.specs.Vectors.{StateVector}
 use Rattle.aq_plain.specs.declared.stop.VectorStop.{VectorStop}
 use Rattle.aq_plain.specs.declared.stop.VectorStop.TheVariants as stop

@@ -1,12 +1,12 @@
 //! Expressions for tests, put together one by one and tested as they are.
 ghost use Rattle.std.specs.Prelude.{◌≡◌, ◌<◌, ◌≤◌, IfOk, OnOk, length, []};
-ghost use Rattle.aq_set_read.specs.Sizes.{size_of};
-ghost use Rattle.aq_set_read.specs.Valid.{IsValidSets};
-ghost use Rattle.aq_plain.specs.ValidExprs.{AreValidExprs};
+ghost use Rattle.aq_sets.specs.Sizes.{size_of};
+ghost use Rattle.aq_sets.specs.Valid.{IsValidSets};
+ghost use Rattle.aq_sets.specs.ValidExprs.{AreValidExprs};
 
 use crate::listing::numbers_of;
 use aq_ring::Amp;
-use aq_set_read::{Expr, Sets, Term};
+use aq_sets::{Expr, Sets, Term};
 use sqlite_items::Items;
 use std::alloc::Global;
 use std::test::Fail;

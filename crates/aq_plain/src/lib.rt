@@ -4,7 +4,6 @@
 mod apply;
 #[cfg(test)]
 mod built;
-pub mod laws;
 mod listing;
 #[cfg(test)]
 mod listing_tests;
@@ -13,7 +12,6 @@ mod places;
 mod project;
 mod row;
 mod rows;
-mod sizes;
 mod stop;
 mod tensors;
 #[cfg(test)]
@@ -24,6 +22,5 @@ pub use apply::apply_plain;
 pub use listing::vectors;
 pub use project::project_plain;
 pub use row::WideSum;
-pub use sizes::{Size, capped_product, capped_sum, sizes_of};
 pub use stop::VectorStop;
 pub use vector::Vector;

@@ -1,20 +1,19 @@
 //! The vectors that an expression lists.
 ghost use Rattle.std.specs.Prelude.{◌≡◌, ℕ, ◌<◌, ◌≤◌, ◌^◌, All, IfOk, Some, length, slice_get};
-ghost use Rattle.aq_set_read.specs.Vectors.{vectors_of, products_of};
-ghost use Rattle.aq_set_read.specs.Sizes.{size_of};
-ghost use Rattle.aq_set_read.specs.Valid.{IsValidSets};
-ghost use Rattle.aq_set_read.specs.declared.sets.Expr.{Expr};
-ghost use Rattle.aq_plain.specs.Caps.{capped};
-ghost use Rattle.aq_plain.specs.ValidExprs.{AreValidExprs};
+ghost use Rattle.aq_sets.specs.Vectors.{vectors_of, products_of};
+ghost use Rattle.aq_sets.specs.Sizes.{size_of};
+ghost use Rattle.aq_sets.specs.Valid.{IsValidSets};
+ghost use Rattle.aq_sets.specs.declared.sets.Expr.{Expr};
+ghost use Rattle.aq_sets.specs.Caps.{capped};
+ghost use Rattle.aq_sets.specs.ValidExprs.{AreValidExprs};
 ghost use Rattle.aq_plain.specs.Listing.{Takes, VectorsGive, states_of, IsWhole};
 
 use crate::parts::parts_of;
 use crate::rows::{Row, basis_rows, kets_row};
-use crate::sizes::expr_sizes;
 use crate::stop::VectorStop;
 use crate::tensors::{power_rows, tensor_rows};
 use crate::vector::Vector;
-use aq_set_read::{Expr, Sets};
+use aq_sets::{Expr, Sets, expr_sizes};
 use sqlite_items::Items;
 use std::alloc::{AllocError, Global};
 

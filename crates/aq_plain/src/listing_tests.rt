@@ -1,13 +1,13 @@
 ghost use Rattle.std.specs.Prelude.{◌≡◌, ◌<◌, IfOk, length};
-ghost use Rattle.aq_plain.specs.ValidExprs.{AreValidExprs};
-ghost use Rattle.aq_set_read.specs.Valid.{IsValidSets};
+ghost use Rattle.aq_sets.specs.ValidExprs.{AreValidExprs};
+ghost use Rattle.aq_sets.specs.Valid.{IsValidSets};
 
 use crate::built::{
     no_exprs, put_all, put_ket, put_kets, put_power, put_tensor, put_union, sets_of, term,
 };
-use crate::{Size, Vector, VectorStop, sizes_of, vectors};
+use crate::{Vector, VectorStop, vectors};
 use aq_ring::Amp;
-use aq_set_read::{Expr, Sets};
+use aq_sets::{Expr, Sets, Size, sizes_of};
 use sqlite_items::Items;
 use std::alloc::Global;
 use std::test::Fail;

@@ -1,9 +1,9 @@
 //! The parts of a union.
 ghost use Rattle.std.specs.Prelude.{◌≡◌, ◌<◌, ◌++◌, IfOk, OnOk, length};
-ghost use Rattle.aq_plain.specs.ValidExprs.{AreValidExprs};
+ghost use Rattle.aq_sets.specs.ValidExprs.{AreValidExprs};
 ghost use Rattle.aq_plain.specs.Listing.{ArePartsOf, opened, kept};
 
-use aq_set_read::Expr;
+use aq_sets::Expr;
 use std::alloc::{AllocError, Global};
 
 /// The positions of the expressions that the expression unites, in order. None of them is a union or a power of one.

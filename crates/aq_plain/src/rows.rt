@@ -1,10 +1,10 @@
 //! The vectors of brackets and of `all`.
 ghost use Rattle.std.specs.Prelude.{◌≡◌, ◌<◌, ◌≤◌, ◌^◌, All, IfOk, length, replicate, slice_set};
 ghost use Rattle.aq_ring.specs.Amplitudes.{amplitude_zero};
-ghost use Rattle.aq_set_read.specs.Vectors.{kets_vector, basis_vector, basis};
+ghost use Rattle.aq_sets.specs.Vectors.{kets_vector, basis_vector, basis};
 
 use aq_ring::Amp;
-use aq_set_read::Term;
+use aq_sets::Term;
 use std::alloc::{AllocError, Global};
 use std::marker::Model;
 

@@ -2,7 +2,7 @@
 ghost use Rattle.std.specs.Prelude.{◌≡◌, ◌≤◌, ◌++◌, map};
 ghost use Rattle.std.specs.List.{flat_map};
 ghost use Rattle.aq_ring.specs.Amplitudes.{product};
-ghost use Rattle.aq_set_read.specs.Vectors.{tensor, tensors, pairs, all_pairs, listed, power};
+ghost use Rattle.aq_sets.specs.Vectors.{tensor, tensors, pairs, all_pairs, listed, power};
 ghost use Rattle.aq_plain.specs.Listing.{Takes};
 
 use crate::rows::Row;

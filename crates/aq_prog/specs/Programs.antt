@@ -2,18 +2,12 @@
 use Rattle.std.specs.Prelude.{◌≡◌, ℕ, ◌+◌, ◌<◌, ◌≤◌, List, [], ◌∷◌, All, length, map, IfSome}
 use Rattle.std.specs.List.{IsDistinct}
 use Rattle.std.specs.Str.{bytes_eq}
+use Rattle.aq_base.specs.Limits.{most_bits, most_qubits}
 use Rattle.aq_prog.specs.Gates.{IsValidGate}
 use Rattle.aq_prog.specs.declared.stmt.Stmt.{Stmt, every-Stmt}
 use Rattle.aq_prog.specs.declared.stmt.Stmt.TheOpen.{Stmt-F}
 use Rattle.aq_prog.specs.declared.program.BitRegister.{BitRegister}
 use Rattle.aq_prog.specs.declared.program.Program.{Program}
-
--- the largest numbers of qubits and of bits
-abbrev pub most_qubits : ℕ
-most_qubits = 16
-
-abbrev pub most_bits : ℕ
-most_bits = 32
 
 -- one level of a statement on n qubits, m bits and k claims: its gate is valid, and what it names is there
 abbrev pub IsValidLevel : {A : Type 0} → ℕ → ℕ → ℕ → Stmt-F A → Type 0

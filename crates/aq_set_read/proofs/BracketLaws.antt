@@ -2,13 +2,15 @@
 use Rattle.std.proofs.Common.{◌≡◌, ℕ, ◌≤◌, tests, rules, Bool, true, false, not, ◌||◌, List, [], ◌∷◌, ◌++◌, map, nat_eq, nat_lt, ◌==◌, length, Ok, Err, refl, sym, ap, ◌∙◌}
 use Rattle.std.specs.List.{list_any}
 use Rattle.aq_lex.specs.declared.place.Place.{Place}
-use Rattle.aq_set_read.specs.Gathered.{Gathered, ◌>>=◌, ◌>>◌, refuse_if, counted, most_qubits}
+use Rattle.aq_base.specs.Checks.{refuse_if, ◌>>=◌, ◌>>◌}
+use Rattle.aq_base.specs.Limits.{most_qubits}
+use Rattle.aq_set_read.specs.Gathered.{Gathered, counted}
 use Rattle.aq_set_read.specs.Meaning.{step, stands_in, digits_of, ket_length, binary, index_of, term_of, term_behind, term_taken, most_roots}
 use Rattle.aq_set_read.specs.Parts.{term_added, term_counted, roots_taken}
 use Rattle.aq_set_read.specs.Coefs.{amplitude_of, roots_of}
-use Rattle.aq_set_read.specs.declared.tree.SetTerm.{SetTerm}
+use Rattle.aq_set_parse.specs.declared.tree.SetTerm.{SetTerm}
 use Rattle.aq_set_read.proofs.CheckLaws.{passes, has_passed, check_then}
-use Rattle.aq_set_read.specs.declared.sets.Term.{Term}
+use Rattle.aq_sets.specs.declared.sets.Term.{Term}
 use Rattle.aq_set_read.specs.declared.set_fault.SetFault.TheVariants as faults
 
 -- an index is in the set where it is a term's

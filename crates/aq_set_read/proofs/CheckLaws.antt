@@ -1,6 +1,7 @@
 -- Checks that pass, and checks that refuse.
 use Rattle.std.proofs.Common.{◌≡◌, Bool, true, false, Ok, refl, ap}
-use Rattle.aq_set_read.specs.Gathered.{Checked, ◌>>=◌, ◌>>◌, refuse_if}
+use Rattle.aq_base.specs.Checks.{refuse_if, ◌>>=◌, ◌>>◌}
+use Rattle.aq_set_read.specs.Gathered.{Checked}
 use Rattle.aq_set_read.specs.declared.set_fault.SetFault.{SetFault}
 
 -- a check that passes says nothing

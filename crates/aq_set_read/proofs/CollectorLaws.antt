@@ -6,9 +6,9 @@ use Rattle.indexmap.specs.IndexMap.{insert_entry}
 use Rattle.indexmap.proofs.MapLemmas.{insert_entry-absent, absent_from_lookup}
 use Rattle.aq_set_read.specs.Gathered.{Gathered, named, with_name}
 use Rattle.aq_set_read.specs.declared.made.Made.{Made}
-use Rattle.aq_set_read.specs.declared.sets.Expr.{Expr}
-use Rattle.aq_set_read.specs.declared.sets.NamedSet.{NamedSet}
-use Rattle.aq_set_read.specs.declared.sets.NamedClaim.{NamedClaim}
+use Rattle.aq_sets.specs.declared.sets.Expr.{Expr}
+use Rattle.aq_sets.specs.declared.sets.NamedSet.{NamedSet}
+use Rattle.aq_sets.specs.declared.sets.NamedClaim.{NamedClaim}
 
 -- what a map finds is what the name has
 pub lookup_named : (names : List (List ℕ × Option Made)) (name : List ℕ) → lookup (bytes_eq name) names ≡ named names name

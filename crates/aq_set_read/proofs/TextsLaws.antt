@@ -6,27 +6,28 @@ use Rattle.std.proofs.lemmas.Bool.{ltb-true, ltb-false}
 use Rattle.std.proofs.lemmas.List.{take_all}
 use Rattle.aq_grammar.specs.Words.{first}
 use Rattle.aq_lex.specs.Places.{place_after}
-use Rattle.aq_set_read.specs.Cuts.{Reads}
-use Rattle.aq_set_read.specs.Piece.{SetPiece}
-use Rattle.aq_set_read.specs.Pieces.{pieces}
-use Rattle.aq_set_read.specs.Tokens.{place_of}
-use Rattle.aq_set_read.specs.SetGrammar.{IsFile}
-use Rattle.aq_set_read.specs.Verdict.{IsFault, text_of}
+use Rattle.aq_set_parse.specs.Cuts.{Reads}
+use Rattle.aq_set_parse.specs.Piece.{SetPiece}
+use Rattle.aq_set_parse.specs.Pieces.{pieces}
+use Rattle.aq_set_parse.specs.Tokens.{place_of}
+use Rattle.aq_set_parse.specs.SetGrammar.{IsFile}
+use Rattle.aq_set_parse.specs.Verdict.{IsFault, text_of}
 use Rattle.aq_set_read.specs.Gathered.{Gives}
 use Rattle.aq_set_read.specs.Meaning.{sets_of}
-use Rattle.aq_set_read.specs.Valid.{IsValidSets}
-use Rattle.aq_set_read.specs.Texts.{most_deep, HasSetTree, SaysSets, HasItemFault, SetFaultOf}
-use Rattle.aq_set_read.specs.declared.token.SetToken.{SetToken}
-use Rattle.aq_set_read.specs.declared.tree.SetTree.{SetTree}
-use Rattle.aq_set_read.specs.declared.sets.Sets.{Sets}
-use Rattle.aq_set_read.specs.declared.fault.SetLexFault.{SetLexFault}
-use Rattle.aq_set_read.specs.declared.fault.SetLexFault.TheVariants as lexed
-use Rattle.aq_set_read.specs.declared.reader.Fault.{Fault}
-use Rattle.aq_set_read.specs.declared.reader.Fault.TheVariants as kinds
+use Rattle.aq_sets.specs.Valid.{IsValidSets}
+use Rattle.aq_base.specs.Limits.{most_nested}
+use Rattle.aq_set_read.specs.Texts.{HasSetTree, SaysSets, HasItemFault, SetFaultOf}
+use Rattle.aq_set_parse.specs.declared.token.SetToken.{SetToken}
+use Rattle.aq_set_parse.specs.declared.tree.SetTree.{SetTree}
+use Rattle.aq_sets.specs.declared.sets.Sets.{Sets}
+use Rattle.aq_set_parse.specs.declared.fault.SetLexFault.{SetLexFault}
+use Rattle.aq_set_parse.specs.declared.fault.SetLexFault.TheVariants as lexed
+use Rattle.aq_set_parse.specs.declared.reader.Fault.{Fault}
+use Rattle.aq_set_parse.specs.declared.reader.Fault.TheVariants as kinds
 use Rattle.aq_set_read.specs.declared.set_fault.SetFault.{SetFault}
 use Rattle.aq_set_read.specs.declared.set_fault.SetFault.TheVariants as faults
-use Rattle.aq_set_read.proofs.CutLaws.{one_reading}
-use Rattle.aq_set_read.proofs.Judged.{one_tree, one_fault}
+use Rattle.aq_set_parse.proofs.CutLaws.{one_reading}
+use Rattle.aq_set_parse.proofs.Judged.{one_tree, one_fault}
 use Rattle.aq_set_read.proofs.ValidChecks.{Judged}
 use Rattle.aq_set_read.proofs.ValidItems.{sets_of-valid}
 
@@ -98,7 +99,7 @@ pieces_in text ts = pieces (record { source = text; list = ts })
 one_tree_of_text : (text : List ℕ) (x y : SetTree) → HasSetTree text x → HasSetTree text y → x ≡ y
 one_tree_of_text text x y h k =
     let same = one_tokens text h.tokens k.tokens h.cut k.cut in
-    one_tree most_deep most_deep x y (pieces_in text k.tokens) (subst (λ (ts : List SetToken). IsFile most_deep x (pieces_in text ts)) same h.grammar) k.grammar
+    one_tree most_nested most_nested x y (pieces_in text k.tokens) (subst (λ (ts : List SetToken). IsFile most_nested x (pieces_in text ts)) same h.grammar) k.grammar
 
 pub one_sets : (text : List ℕ) (a b : Sets) → SaysSets text a → SaysSets text b → a ≡ b
 one_sets text a b s t = ok_is {E = SetFault} a b (sym s.meaning ∙ ap sets_of (one_tree_of_text text s.tree t.tree s.has_tree t.has_tree) ∙ t.meaning)
@@ -121,7 +122,7 @@ told_tree kinds.TooDeep rest = faults.TooDeep (place_of (first rest))
 data Because (text : List ℕ) (f : SetFault) : Type 0 where
   of_bytes : (n : ℕ) → IsValidUpTo text n → f ≡ faults.NotUtf8 (place_after (take n text)) → Because text f
   of_tokens : (l : SetLexFault) → Reads text (Err l) → f ≡ told_tokens l → Because text f
-  of_tree : (ts : List SetToken) → Reads text (Ok ts) → (k : Fault) (rest : List SetPiece) → IsFault most_deep (pieces_in text ts) k rest → f ≡ told_tree k rest → Because text f
+  of_tree : (ts : List SetToken) → Reads text (Ok ts) → (k : Fault) (rest : List SetPiece) → IsFault most_nested (pieces_in text ts) k rest → f ≡ told_tree k rest → Because text f
   of_items : HasItemFault text f → Because text f
   of_memory : f ≡ faults.Memory → Because text f
 
@@ -155,10 +156,10 @@ one_front text n m h k = by (nat_lt n m) (nat_lt m n) refl refl
     by false true e f = absurd (k.longest n (ltb-true m n f) h.front)
     by false false e f = let le = ltb-false n m e in let ge = ltb-false m n f in omega (arith, le, ge)
 
-no_tree_here : (text : List ℕ) (ts : List SetToken) (k : Fault) (rest : List SetPiece) (tree : SetTree) → Reads text (Ok ts) → IsFault most_deep (pieces_in text ts) k rest → HasSetTree text tree → ⊥
+no_tree_here : (text : List ℕ) (ts : List SetToken) (k : Fault) (rest : List SetPiece) (tree : SetTree) → Reads text (Ok ts) → IsFault most_nested (pieces_in text ts) k rest → HasSetTree text tree → ⊥
 no_tree_here text ts k rest tree cut fault has =
     let same = one_tokens text has.tokens ts has.cut cut in
-    fault.no_tree tree (subst (λ (us : List SetToken). IsFile most_deep tree (pieces_in text us)) same has.grammar)
+    fault.no_tree tree (subst (λ (us : List SetToken). IsFile most_nested tree (pieces_in text us)) same has.grammar)
 
 no_fault_of_tree : (text : List ℕ) (tree : SetTree) (f : SetFault) → HasSetTree text tree → Because text f → ((f ≡ faults.Memory) → ⊥) → HasItemFault text f
 no_fault_of_tree text tree f has (Because.of_bytes n h e) not = absurd (no_utf8 text n h has.cut.0)
@@ -176,10 +177,10 @@ no_fault text sets f says h not = no_item_fault text sets f says (no_fault_of_tr
 one_item_fault : (text : List ℕ) (e f : SetFault) → HasItemFault text e → HasItemFault text f → e ≡ f
 one_item_fault text e f h k = err_is {A = Sets} e f (sym h.meaning ∙ ap sets_of (one_tree_of_text text h.tree k.tree h.has_tree k.has_tree) ∙ k.meaning)
 
-one_tree_fault : (text : List ℕ) (ts us : List SetToken) (k l : Fault) (r s : List SetPiece) → Reads text (Ok ts) → Reads text (Ok us) → IsFault most_deep (pieces_in text ts) k r → IsFault most_deep (pieces_in text us) l s → told_tree k r ≡ told_tree l s
+one_tree_fault : (text : List ℕ) (ts us : List SetToken) (k l : Fault) (r s : List SetPiece) → Reads text (Ok ts) → Reads text (Ok us) → IsFault most_nested (pieces_in text ts) k r → IsFault most_nested (pieces_in text us) l s → told_tree k r ≡ told_tree l s
 one_tree_fault text ts us k l r s cut again h i =
     let same = one_tokens text ts us cut again in
-    let both = one_fault most_deep (pieces_in text us) r s k l (subst (λ (vs : List SetToken). IsFault most_deep (pieces_in text vs) k r) same h) i in
+    let both = one_fault most_nested (pieces_in text us) r s k l (subst (λ (vs : List SetToken). IsFault most_nested (pieces_in text vs) k r) same h) i in
     ap₂ told_tree both.0 both.1
 
 module _ (text : List ℕ) (e f : SetFault) where

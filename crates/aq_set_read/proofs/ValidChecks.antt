@@ -1,7 +1,8 @@
 -- What a computation gives that adds to what is gathered or stops at a fault: a value of which something holds, or a fault
 -- that an item of a set file can have.
 use Rattle.std.proofs.Common.{◌≡◌, Bool, true, false, Ok, Err, refl}
-use Rattle.aq_set_read.specs.Gathered.{Checked, ◌>>=◌, ◌>>◌, refuse_if}
+use Rattle.aq_base.specs.Checks.{refuse_if, ◌>>=◌, ◌>>◌}
+use Rattle.aq_set_read.specs.Gathered.{Checked}
 use Rattle.aq_set_read.specs.declared.set_fault.SetFault.{SetFault}
 use Rattle.aq_set_read.specs.declared.set_fault.SetFault.TheVariants as faults
 

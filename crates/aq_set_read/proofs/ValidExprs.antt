@@ -3,19 +3,21 @@ use Rattle.std.proofs.Common.{◌≡◌, ℕ, ◌+◌, ◌*◌, ◌==◌, not, n
 use Rattle.std.specs.List.{AllByRecursion}
 use Rattle.std.proofs.lemmas.Bool.{eqb-true, ltb-false, not-false}
 use Rattle.aq_lex.specs.declared.place.Place.{Place}
-use Rattle.aq_set_read.specs.Gathered.{Gathered, ◌>>=◌, named, most_qubits}
-use Rattle.aq_set_read.specs.Sizes.{size_of}
+use Rattle.aq_base.specs.Checks.{◌>>=◌}
+use Rattle.aq_base.specs.Limits.{most_qubits}
+use Rattle.aq_set_read.specs.Gathered.{Gathered, named}
+use Rattle.aq_sets.specs.Sizes.{size_of}
 use Rattle.aq_set_read.specs.Meaning.{Step, out_of_range, node, all_made, set_named, name_made, powered, Join, tensored, united, Meaning, Operand, joined, chained, expr_step, factor_step, part_step, meaning, factor_of, part_of}
 use Rattle.aq_set_read.specs.declared.made.Made.{Made}
-use Rattle.aq_set_read.specs.declared.tree.SetWord.{SetWord}
-use Rattle.aq_set_read.specs.declared.tree.SetPower.{SetPower}
-use Rattle.aq_set_read.specs.declared.tree.SetExpr.{SetExpr}
-use Rattle.aq_set_read.specs.declared.tree.SetFactor.{SetFactor}
-use Rattle.aq_set_read.specs.declared.tree.SetPart.{SetPart}
-use Rattle.aq_set_read.specs.declared.tree.SetExpr.TheOpen.{SetExpr-F, SetFactor-F, SetPart-F}
-use Rattle.aq_set_read.specs.declared.tree.SetExpr.TheFolds.{map-SetExpr, map-SetFactor, map-SetPart, fold-roll-SetExpr, fold-roll-SetFactor, fold-roll-SetPart, ind-SetExpr}
-use Rattle.aq_set_read.specs.declared.tree.SetExpr.TheViews.{roll-SetExpr, roll-SetFactor, roll-SetPart}
-use Rattle.aq_set_read.specs.declared.sets.Expr.TheVariants as expr
+use Rattle.aq_set_parse.specs.declared.tree.SetWord.{SetWord}
+use Rattle.aq_set_parse.specs.declared.tree.SetPower.{SetPower}
+use Rattle.aq_set_parse.specs.declared.tree.SetExpr.{SetExpr}
+use Rattle.aq_set_parse.specs.declared.tree.SetFactor.{SetFactor}
+use Rattle.aq_set_parse.specs.declared.tree.SetPart.{SetPart}
+use Rattle.aq_set_parse.specs.declared.tree.SetExpr.TheOpen.{SetExpr-F, SetFactor-F, SetPart-F}
+use Rattle.aq_set_parse.specs.declared.tree.SetExpr.TheFolds.{map-SetExpr, map-SetFactor, map-SetPart, fold-roll-SetExpr, fold-roll-SetFactor, fold-roll-SetPart, ind-SetExpr}
+use Rattle.aq_set_parse.specs.declared.tree.SetExpr.TheViews.{roll-SetExpr, roll-SetFactor, roll-SetPart}
+use Rattle.aq_sets.specs.declared.sets.Expr.TheVariants as expr
 use Rattle.aq_set_read.proofs.ValidChecks.{Judged, follows, weaker}
 use Rattle.aq_set_read.proofs.ValidNodes.{IsMade, IsFew, IsSound, not_grown, grown_twice, made-grown, IsFine, node-fine, few-within}
 use Rattle.aq_set_read.proofs.ValidTerms.{bracket_made-fine}

@@ -7,23 +7,25 @@ use Rattle.std.specs.Str.{bytes_eq}
 use Rattle.std.proofs.lemmas.Bool.{eqb-true, not-false}
 use Rattle.std.proofs.lemmas.List.{length_push, map-append, append_assoc, append-nil}
 use Rattle.std.proofs.lemmas.List.Elements.{All-from_recursion}
-use Rattle.aq_set_read.specs.Gathered.{Gathered, ◌>>=◌, ◌>>◌, refuse_if, named, nothing_gathered, most_names}
+use Rattle.aq_base.specs.Checks.{refuse_if, ◌>>=◌, ◌>>◌}
+use Rattle.aq_base.specs.Limits.{most_names}
+use Rattle.aq_set_read.specs.Gathered.{Gathered, named, nothing_gathered}
 use Rattle.aq_set_read.specs.Meaning.{Step, meaning, cases_made, same_qubits, first_qubits, cases_of, naming, with_set, with_claim, item_taken, items_taken, sets_in, sets_of}
-use Rattle.aq_set_read.specs.Sizes.{size_of}
-use Rattle.aq_set_read.specs.Valid.{IsValidClaim, IsValidSets}
+use Rattle.aq_sets.specs.Sizes.{size_of}
+use Rattle.aq_sets.specs.Valid.{IsValidClaim, IsValidSets}
 use Rattle.aq_set_read.specs.declared.made.Made.{Made}
-use Rattle.aq_set_read.specs.declared.tree.SetWord.{SetWord}
-use Rattle.aq_set_read.specs.declared.tree.SetCase.{SetCase}
-use Rattle.aq_set_read.specs.declared.tree.SetItem.{SetItem}
-use Rattle.aq_set_read.specs.declared.tree.SetItem.TheVariants as items
-use Rattle.aq_set_read.specs.declared.tree.SetTree.{SetTree}
-use Rattle.aq_set_read.specs.declared.sets.Expr.{Expr}
-use Rattle.aq_set_read.specs.declared.sets.Case.{Case}
-use Rattle.aq_set_read.specs.declared.sets.NamedSet.{NamedSet}
-use Rattle.aq_set_read.specs.declared.sets.NamedClaim.{NamedClaim}
+use Rattle.aq_set_parse.specs.declared.tree.SetWord.{SetWord}
+use Rattle.aq_set_parse.specs.declared.tree.SetCase.{SetCase}
+use Rattle.aq_set_parse.specs.declared.tree.SetItem.{SetItem}
+use Rattle.aq_set_parse.specs.declared.tree.SetItem.TheVariants as items
+use Rattle.aq_set_parse.specs.declared.tree.SetTree.{SetTree}
+use Rattle.aq_sets.specs.declared.sets.Expr.{Expr}
+use Rattle.aq_sets.specs.declared.sets.Case.{Case}
+use Rattle.aq_sets.specs.declared.sets.NamedSet.{NamedSet}
+use Rattle.aq_sets.specs.declared.sets.NamedClaim.{NamedClaim}
 use Rattle.aq_set_read.specs.declared.set_fault.SetFault.TheVariants as faults
 use Rattle.aq_set_read.proofs.ValidChecks.{Judged, follows, ahead, unless, refusal, weaker}
-use Rattle.aq_set_read.proofs.ValidSizes.{holds_more, holds_behind, holds_between, distinct_between}
+use Rattle.aq_sets.proofs.ValidSizes.{holds_more, holds_behind, holds_between, distinct_between}
 use Rattle.aq_set_read.proofs.ValidNodes.{IsMade, IsCaseOn, IsSoundClaim, names_of, AreNamed, IsSound, IsGrown, not_grown, grown_twice, made-grown, IsFine}
 use Rattle.aq_set_read.proofs.ValidExprs.{meaning-good}
 

@@ -7,19 +7,21 @@ use Rattle.std.proofs.lemmas.Bool.{eqb-false, ltb-true, ltb-false, or_parts}
 use Rattle.std.proofs.lemmas.List.{length-append, length_push, append_assoc, append-nil}
 use Rattle.std.proofs.lemmas.Option.{slice_get_within}
 use Rattle.aq_lex.specs.declared.place.Place.{Place}
-use Rattle.aq_set_read.specs.Gathered.{Gathered, Checked, ◌>>=◌, counted, named, most_qubits, most_nodes}
-use Rattle.aq_set_read.specs.Tables.{table}
-use Rattle.aq_set_read.specs.Sizes.{Size, size_step, size_of}
+use Rattle.aq_base.specs.Checks.{◌>>=◌}
+use Rattle.aq_base.specs.Limits.{most_nodes, most_qubits}
+use Rattle.aq_set_read.specs.Gathered.{Gathered, Checked, counted, named}
+use Rattle.aq_sets.specs.Tables.{table}
+use Rattle.aq_sets.specs.Sizes.{Size, size_step, size_of}
 use Rattle.aq_set_read.specs.Meaning.{Step, out_of_range, with_expr, node}
-use Rattle.aq_set_read.specs.Valid.{IsValidExpr}
+use Rattle.aq_sets.specs.Valid.{IsValidExpr}
 use Rattle.aq_set_read.specs.declared.made.Made.{Made}
-use Rattle.aq_set_read.specs.declared.sets.Expr.{Expr}
-use Rattle.aq_set_read.specs.declared.sets.Case.{Case}
-use Rattle.aq_set_read.specs.declared.sets.NamedSet.{NamedSet}
-use Rattle.aq_set_read.specs.declared.sets.NamedClaim.{NamedClaim}
+use Rattle.aq_sets.specs.declared.sets.Expr.{Expr}
+use Rattle.aq_sets.specs.declared.sets.Case.{Case}
+use Rattle.aq_sets.specs.declared.sets.NamedSet.{NamedSet}
+use Rattle.aq_sets.specs.declared.sets.NamedClaim.{NamedClaim}
 use Rattle.aq_set_read.specs.declared.set_fault.SetFault.TheVariants as faults
 use Rattle.aq_set_read.proofs.ValidChecks.{Judged, unless, follows}
-use Rattle.aq_set_read.proofs.ValidSizes.{size-stays, size-last, slice_get-front, slice_get-last, valid-stays, holds_more}
+use Rattle.aq_sets.proofs.ValidSizes.{size-stays, size-last, slice_get-front, slice_get-last, valid-stays, holds_more}
 
 -- ---- sound
 

@@ -9,16 +9,18 @@ use Rattle.std.proofs.lemmas.List.{length_push, map-append}
 use Rattle.std.proofs.lemmas.List.Elements.{All-from_recursion}
 use Rattle.std.proofs.lemmas.Map.Keys.{IsDistinct-push}
 use Rattle.aq_lex.specs.declared.place.Place.{Place}
-use Rattle.aq_set_read.specs.Gathered.{Gathered, ◌>>=◌, ◌>>◌, refuse_if, counted, most_qubits}
+use Rattle.aq_base.specs.Checks.{refuse_if, ◌>>=◌, ◌>>◌}
+use Rattle.aq_base.specs.Limits.{most_qubits}
+use Rattle.aq_set_read.specs.Gathered.{Gathered, counted}
 use Rattle.aq_set_read.specs.Coefs.{roots_of}
 use Rattle.aq_set_read.specs.Meaning.{Step, step, out_of_range, node, digits_of, ket_length, digit, binary, index_of, most_roots, stands_in, term_of, term_behind, term_taken, terms_taken, bracket_qubits, bracket_made}
-use Rattle.aq_set_read.specs.declared.tree.SetTerm.{SetTerm}
-use Rattle.aq_set_read.specs.declared.sets.Term.{Term}
-use Rattle.aq_set_read.specs.declared.sets.Expr.TheVariants as expr
+use Rattle.aq_set_parse.specs.declared.tree.SetTerm.{SetTerm}
+use Rattle.aq_sets.specs.declared.sets.Term.{Term}
+use Rattle.aq_sets.specs.declared.sets.Expr.TheVariants as expr
 use Rattle.aq_set_read.specs.declared.set_fault.SetFault.TheVariants as faults
 use Rattle.aq_set_read.proofs.BracketLaws.{any_index}
 use Rattle.aq_set_read.proofs.ValidChecks.{Judged, follows, unless, weaker}
-use Rattle.aq_set_read.proofs.ValidSizes.{holds_behind}
+use Rattle.aq_sets.proofs.ValidSizes.{holds_behind}
 use Rattle.aq_set_read.proofs.ValidNodes.{IsSound, IsGrown, not_grown, grown_twice, IsFine, node-fine, one_node_more, counted-judged, counted-sound, few-within}
 
 -- ---- indices

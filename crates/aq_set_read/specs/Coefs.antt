@@ -3,12 +3,12 @@ use Rattle.std.specs.Prelude.{ℕ, ◌%◌, ◌^◌, ◌<◌, ⊤, ℤ, pos, neg
 use Rattle.aq_ring.specs.Quads.{Quad, quad, quad_one, quad_neg, turned_by}
 use Rattle.aq_ring.specs.Fractions.{Amplitude}
 use Rattle.aq_ring.specs.Amplitudes.{lowest_form}
-use Rattle.aq_set_read.specs.declared.tree.SetInt.{SetInt}
-use Rattle.aq_set_read.specs.declared.tree.SetTurn.{SetTurn}
-use Rattle.aq_set_read.specs.declared.tree.SetTurn.TheVariants as turns
-use Rattle.aq_set_read.specs.declared.tree.SetScalar.{SetScalar}
-use Rattle.aq_set_read.specs.declared.tree.SetScalar.TheVariants as scalars
-use Rattle.aq_set_read.specs.declared.tree.SetCoef.{SetCoef}
+use Rattle.aq_set_parse.specs.declared.tree.SetInt.{SetInt}
+use Rattle.aq_set_parse.specs.declared.tree.SetTurn.{SetTurn}
+use Rattle.aq_set_parse.specs.declared.tree.SetTurn.TheVariants as turns
+use Rattle.aq_set_parse.specs.declared.tree.SetScalar.{SetScalar}
+use Rattle.aq_set_parse.specs.declared.tree.SetScalar.TheVariants as scalars
+use Rattle.aq_set_parse.specs.declared.tree.SetCoef.{SetCoef}
 
 abbrev pub signed : Bool → ℕ → ℤ
 signed true n = neg_ℤ (pos n)

@@ -1,11 +1,13 @@
 -- What the items of a set file before a place have given, and computations that add to it or stop at the first fault.
 use Rattle.std.specs.Prelude.{◌≡◌, ℕ, suc, Bool, List, [], ◌∷◌, ◌++◌, Option, Some, None, Result, Ok, Err, nat_lt, if◌then◌else◌}
 use Rattle.std.specs.Str.{bytes_eq}
+use Rattle.aq_base.specs.Checks.{CheckedBy, GivesUnless, refuse_if, ◌>>◌}
+use Rattle.aq_base.specs.Limits.{most_nodes}
 use Rattle.aq_lex.specs.declared.place.Place.{Place}
 use Rattle.aq_set_read.specs.declared.made.Made.{Made}
-use Rattle.aq_set_read.specs.declared.sets.Expr.{Expr}
-use Rattle.aq_set_read.specs.declared.sets.NamedSet.{NamedSet}
-use Rattle.aq_set_read.specs.declared.sets.NamedClaim.{NamedClaim}
+use Rattle.aq_sets.specs.declared.sets.Expr.{Expr}
+use Rattle.aq_sets.specs.declared.sets.NamedSet.{NamedSet}
+use Rattle.aq_sets.specs.declared.sets.NamedClaim.{NamedClaim}
 use Rattle.aq_set_read.specs.declared.set_fault.SetFault.{SetFault}
 use Rattle.aq_set_read.specs.declared.set_fault.SetFault.TheVariants as faults
 
@@ -29,35 +31,10 @@ named (entry ∷ rest) name = if bytes_eq name entry.0 then Some entry.1 else na
 abbrev pub with_name : List ℕ → Option Made → Gathered → Gathered
 with_name name made g = record { exprs = g.exprs; nodes = g.nodes; names = g.names ++ (name, made) ∷ []; sets = g.sets; claims = g.claims }
 
--- the most qubits, nodes and names
-abbrev pub most_qubits : ℕ
-most_qubits = 16
-
-abbrev pub most_nodes : ℕ
-most_nodes = 100000
-
-abbrev pub most_names : ℕ
-most_names = 1000
-
 -- ---- checks, of which the first that fails tells the fault
 
 abbrev pub Checked : Type 0 → Type 0
-Checked A = Result A SetFault
-
--- the fault where the test holds
-abbrev pub refuse_if : Bool → SetFault → Checked (Unit {0})
-refuse_if test fault = if test then Err fault else Ok tt
-
-infixl 10 ◌>>=◌
-abbrev pub ◌>>=◌ : {A B : Type 0} → Checked A → (A → Checked B) → Checked B
-(Ok x) >>= f = f x
-(Err e) >>= f = Err e
-
--- the check, and then what follows
-infixr 9 ◌>>◌
-abbrev pub ◌>>◌ : {A : Type 0} → Checked (Unit {0}) → Checked A → Checked A
-(Ok u) >> next = next
-(Err e) >> next = Err e
+Checked = CheckedBy SetFault
 
 -- one node more; the fault is at this place
 abbrev pub counted : Place → Gathered → Checked Gathered
@@ -67,5 +44,4 @@ counted at g = refuse_if (nat_lt most_nodes (suc g.nodes)) (faults.TooManyNodes 
 -- ---- what a function of the program answers: the same, unless memory ran out
 
 abbrev pub Gives : {A B : Type 0} → (B → A) → Result B SetFault → Checked A → Type 0
-Gives view (Ok x) wanted = wanted ≡ Ok (view x)
-Gives view (Err e) wanted = (e ≡ faults.Memory → ⊥) → wanted ≡ Err e
+Gives = GivesUnless faults.Memory

@@ -3,28 +3,30 @@ use Rattle.std.specs.Prelude.{ℕ, suc, ◌+◌, ◌*◌, ◌-◌, ◌==◌, Boo
 use Rattle.std.specs.List.{list_any, fold}
 use Rattle.std.specs.Option.{is_some}
 use Rattle.aq_lex.specs.declared.place.Place.{Place}
-use Rattle.aq_set_read.specs.Gathered.{Gathered, Checked, ◌>>=◌, ◌>>◌, refuse_if, counted, named, nothing_gathered, most_qubits, most_names}
+use Rattle.aq_base.specs.Checks.{refuse_if, ◌>>=◌, ◌>>◌}
+use Rattle.aq_base.specs.Limits.{most_names, most_qubits}
+use Rattle.aq_set_read.specs.Gathered.{Gathered, Checked, counted, named, nothing_gathered}
 use Rattle.aq_set_read.specs.Coefs.{amplitude_of, roots_of}
 use Rattle.aq_set_read.specs.declared.made.Made.{Made}
-use Rattle.aq_set_read.specs.declared.tree.SetWord.{SetWord}
-use Rattle.aq_set_read.specs.declared.tree.SetTerm.{SetTerm}
-use Rattle.aq_set_read.specs.declared.tree.SetPower.{SetPower}
-use Rattle.aq_set_read.specs.declared.tree.SetExpr.{SetExpr}
-use Rattle.aq_set_read.specs.declared.tree.SetFactor.{SetFactor}
-use Rattle.aq_set_read.specs.declared.tree.SetPart.{SetPart}
-use Rattle.aq_set_read.specs.declared.tree.SetExpr.TheOpen.{SetExpr-F, SetFactor-F, SetPart-F}
-use Rattle.aq_set_read.specs.declared.tree.SetExpr.TheFolds.{fold-SetExpr, fold-SetFactor, fold-SetPart}
-use Rattle.aq_set_read.specs.declared.tree.SetCond.{SetCond}
-use Rattle.aq_set_read.specs.declared.tree.SetCase.{SetCase}
-use Rattle.aq_set_read.specs.declared.tree.SetItem.{SetItem}
-use Rattle.aq_set_read.specs.declared.tree.SetItem.TheVariants as items
-use Rattle.aq_set_read.specs.declared.tree.SetTree.{SetTree}
-use Rattle.aq_set_read.specs.declared.sets.Term.{Term}
-use Rattle.aq_set_read.specs.declared.sets.Expr.{Expr}
-use Rattle.aq_set_read.specs.declared.sets.Expr.TheVariants as expr
-use Rattle.aq_set_read.specs.declared.sets.Cond.{Cond}
-use Rattle.aq_set_read.specs.declared.sets.Case.{Case}
-use Rattle.aq_set_read.specs.declared.sets.Sets.{Sets}
+use Rattle.aq_set_parse.specs.declared.tree.SetWord.{SetWord}
+use Rattle.aq_set_parse.specs.declared.tree.SetTerm.{SetTerm}
+use Rattle.aq_set_parse.specs.declared.tree.SetPower.{SetPower}
+use Rattle.aq_set_parse.specs.declared.tree.SetExpr.{SetExpr}
+use Rattle.aq_set_parse.specs.declared.tree.SetFactor.{SetFactor}
+use Rattle.aq_set_parse.specs.declared.tree.SetPart.{SetPart}
+use Rattle.aq_set_parse.specs.declared.tree.SetExpr.TheOpen.{SetExpr-F, SetFactor-F, SetPart-F}
+use Rattle.aq_set_parse.specs.declared.tree.SetExpr.TheFolds.{fold-SetExpr, fold-SetFactor, fold-SetPart}
+use Rattle.aq_set_parse.specs.declared.tree.SetCond.{SetCond}
+use Rattle.aq_set_parse.specs.declared.tree.SetCase.{SetCase}
+use Rattle.aq_set_parse.specs.declared.tree.SetItem.{SetItem}
+use Rattle.aq_set_parse.specs.declared.tree.SetItem.TheVariants as items
+use Rattle.aq_set_parse.specs.declared.tree.SetTree.{SetTree}
+use Rattle.aq_sets.specs.declared.sets.Term.{Term}
+use Rattle.aq_sets.specs.declared.sets.Expr.{Expr}
+use Rattle.aq_sets.specs.declared.sets.Expr.TheVariants as expr
+use Rattle.aq_sets.specs.declared.sets.Cond.{Cond}
+use Rattle.aq_sets.specs.declared.sets.Case.{Case}
+use Rattle.aq_sets.specs.declared.sets.Sets.{Sets}
 use Rattle.aq_set_read.specs.declared.set_fault.SetFault.TheVariants as faults
 
 -- ---- an expression that is put together

@@ -1,11 +1,12 @@
 -- Parts of what a term means, as the program takes them.
 use Rattle.std.specs.Prelude.{ℕ, List, [], ◌∷◌, ◌++◌, Ok, nat_lt}
 use Rattle.aq_lex.specs.declared.place.Place.{Place}
-use Rattle.aq_set_read.specs.Gathered.{Gathered, Checked, ◌>>=◌, ◌>>◌, refuse_if, counted}
+use Rattle.aq_base.specs.Checks.{refuse_if, ◌>>=◌, ◌>>◌}
+use Rattle.aq_set_read.specs.Gathered.{Gathered, Checked, counted}
 use Rattle.aq_set_read.specs.Coefs.{roots_of}
 use Rattle.aq_set_read.specs.Meaning.{Step, step, stands_in, most_roots}
-use Rattle.aq_set_read.specs.declared.tree.SetTerm.{SetTerm}
-use Rattle.aq_set_read.specs.declared.sets.Term.{Term}
+use Rattle.aq_set_parse.specs.declared.tree.SetTerm.{SetTerm}
+use Rattle.aq_sets.specs.declared.sets.Term.{Term}
 use Rattle.aq_set_read.specs.declared.set_fault.SetFault.TheVariants as faults
 
 -- a term behind others, unless its ket, which is at this place, stands there

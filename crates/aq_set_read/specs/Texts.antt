@@ -1,29 +1,26 @@
 -- What the text of a set file says.
 use Rattle.std.specs.Prelude.{◌≡◌, ℕ, List, Ok, Err}
-use Rattle.aq_set_read.specs.Cuts.{Reads}
-use Rattle.aq_set_read.specs.Told as lex
-use Rattle.aq_set_read.specs.Pieces.{pieces}
-use Rattle.aq_set_read.specs.SetGrammar.{IsFile}
-use Rattle.aq_set_read.specs.Verdict.{TreeFault}
+use Rattle.aq_base.specs.Limits.{most_nested}
+use Rattle.aq_set_parse.specs.Cuts.{Reads}
+use Rattle.aq_set_parse.specs.Told as lex
+use Rattle.aq_set_parse.specs.Pieces.{pieces}
+use Rattle.aq_set_parse.specs.SetGrammar.{IsFile}
+use Rattle.aq_set_parse.specs.Verdict.{TreeFault}
 use Rattle.aq_set_read.specs.Meaning.{sets_of}
-use Rattle.aq_set_read.specs.declared.token.SetToken.{SetToken}
-use Rattle.aq_set_read.specs.declared.tree.SetTree.{SetTree}
-use Rattle.aq_set_read.specs.declared.sets.Sets.{Sets}
-use Rattle.aq_set_read.specs.declared.fault.SetLexFault.TheVariants as lexed
-use Rattle.aq_set_read.specs.declared.parse_fault.SetParseFault.{SetParseFault}
-use Rattle.aq_set_read.specs.declared.parse_fault.SetParseFault.TheVariants as parsed
+use Rattle.aq_set_parse.specs.declared.token.SetToken.{SetToken}
+use Rattle.aq_set_parse.specs.declared.tree.SetTree.{SetTree}
+use Rattle.aq_sets.specs.declared.sets.Sets.{Sets}
+use Rattle.aq_set_parse.specs.declared.fault.SetLexFault.TheVariants as lexed
+use Rattle.aq_set_parse.specs.declared.parse_fault.SetParseFault.{SetParseFault}
+use Rattle.aq_set_parse.specs.declared.parse_fault.SetParseFault.TheVariants as parsed
 use Rattle.aq_set_read.specs.declared.set_fault.SetFault.{SetFault}
 use Rattle.aq_set_read.specs.declared.set_fault.SetFault.TheVariants as faults
-
--- how deep parentheses may nest
-abbrev pub most_deep : ℕ
-most_deep = 64
 
 -- The text's tokens have this tree by the grammar.
 pub record HasSetTree (text : List ℕ) (tree : SetTree) : Type 0 where
   pub tokens : List SetToken
   pub cut : Reads text (Ok tokens)
-  pub grammar : IsFile most_deep tree (pieces (record { source = text; list = tokens }))
+  pub grammar : IsFile most_nested tree (pieces (record { source = text; list = tokens }))
 
 -- The text says these sets and claims: its tree means them.
 pub record SaysSets (text : List ℕ) (sets : Sets) : Type 0 where
@@ -35,7 +32,7 @@ pub record SaysSets (text : List ℕ) (sets : Sets) : Type 0 where
 pub record HasTreeFault (text : List ℕ) (f : SetParseFault) : Type 0 where
   pub tokens : List SetToken
   pub cut : Reads text (Ok tokens)
-  pub first : TreeFault most_deep f (pieces (record { source = text; list = tokens }))
+  pub first : TreeFault most_nested f (pieces (record { source = text; list = tokens }))
 
 -- The text has a tree, and this is the first fault of its items.
 pub record HasItemFault (text : List ℕ) (f : SetFault) : Type 0 where

@@ -11,8 +11,9 @@ use crate::kets::{binary, digits_of};
 use crate::made::Made;
 use crate::operators::qubits_within;
 use crate::set_fault::SetFault;
-use crate::sets::{Expr, Term};
-use crate::tree::{SetCoef, SetTerm};
+use aq_base::MOST_QUBITS;
+use aq_sets::{Expr, Term};
+use aq_set_parse::{SetCoef, SetTerm};
 use aq_lex::Place;
 use indexmap::IndexSet;
 use sqlite_items::Items;
@@ -28,7 +29,7 @@ struct Terms {
 
 impl Model for Terms {
     ghost use Rattle.std.specs.Prelude.{◌≡◌, List, map};
-    ghost use Rattle.aq_set_read.specs.declared.sets.Term.{Term};
+    ghost use Rattle.aq_sets.specs.declared.sets.Term.{Term};
 
     ghost Value = { List Term };
 
@@ -123,7 +124,7 @@ fn take_term(
 {
     let at = term.ket.at;
     let roots = roots_within(term)?;
-    if qubits > 16 {
+    if qubits > MOST_QUBITS as usize {
         return Err(SetFault::QubitCount { at });
     }
     let digits = digits_of(term.ket.text.as_slice());

@@ -6,19 +6,14 @@ ghost use Rattle.aq_set_read.specs.declared.set_fault.SetFault.TheVariants as fa
 
 use crate::made::Made;
 use crate::set_fault::SetFault;
-use crate::sets::{Case, Expr, NamedClaim, NamedSet, Sets};
-use crate::tree::SetWord;
+use aq_base::{MOST_NAMES, MOST_NODES};
+use aq_sets::{Case, Expr, NamedClaim, NamedSet, Sets};
+use aq_set_parse::SetWord;
 use aq_lex::{Place, Text};
 use indexmap::IndexMap;
 use sqlite_items::Items;
 use std::alloc::Global;
 use std::marker::Model;
-
-/// The most terms, brackets, `all`, powers, products and unions of a file.
-const MOST_NODES: u32 = 100_000;
-
-/// The most sets and claims of a file.
-const MOST_NAMES: usize = 1000;
 
 /// The expressions, the number of nodes, and the names of sets and claims with what a set stands for.
 #[derive(Drop)]

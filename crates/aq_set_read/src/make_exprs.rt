@@ -8,7 +8,7 @@ use crate::collector::Collector;
 use crate::made::Made;
 use crate::operators::{all, power, tensor, union};
 use crate::set_fault::SetFault;
-use crate::tree::{SetExpr, SetFactor, SetPart};
+use aq_set_parse::{SetExpr, SetFactor, SetPart};
 use std::alloc::Global;
 
 /// Puts an expression together.

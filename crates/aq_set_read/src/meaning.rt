@@ -2,14 +2,14 @@
 ghost use Rattle.std.specs.Prelude.{◌≡◌};
 ghost use Rattle.aq_set_read.specs.Gathered.{Gives, nothing_gathered};
 ghost use Rattle.aq_set_read.specs.Meaning.{item_taken, items_taken, sets_of};
-ghost use Rattle.aq_set_read.specs.declared.tree.SetItem.TheVariants as items;
+ghost use Rattle.aq_set_parse.specs.declared.tree.SetItem.TheVariants as items;
 
 use crate::claims::{cases_made, cases_of, first_qubits, same_qubits};
 use crate::collector::Collector;
 use crate::make_exprs::make_expr;
 use crate::set_fault::SetFault;
-use crate::sets::Sets;
-use crate::tree::{SetCase, SetExpr, SetItem, SetTree, SetWord};
+use aq_sets::Sets;
+use aq_set_parse::{SetCase, SetExpr, SetItem, SetTree, SetWord};
 use std::alloc::Global;
 
 /// Takes a set.

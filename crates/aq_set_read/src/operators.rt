@@ -6,15 +6,16 @@ ghost use Rattle.aq_set_read.specs.Meaning.{step, out_of_range, all_made, powere
 use crate::collector::Collector;
 use crate::made::Made;
 use crate::set_fault::SetFault;
-use crate::sets::Expr;
-use crate::tree::SetPower;
+use aq_base::MOST_QUBITS;
+use aq_sets::Expr;
+use aq_set_parse::SetPower;
 use aq_lex::Place;
 
 /// The number of qubits, from 1 to 16. None exactly where it is out of this range.
 pub(crate) fn qubits_within(number: u128) -> Option<u32>
     ensures { MatchOption result (out_of_range number ≡ true) (λ n. (out_of_range number ≡ false) × (n ≡ number)) }
 {
-    if number == 0 || number > 16 {
+    if number == 0 || number > u128::from(MOST_QUBITS) {
         return None;
     }
     Some(number as u32)
@@ -46,7 +47,7 @@ pub(crate) fn power(
     };
     let at = power.at;
     // So many copies have no qubits or more than 16.
-    if power.number > 16 {
+    if power.number > u128::from(MOST_QUBITS) {
         return Err(SetFault::QubitCount { at });
     }
     let times = power.number as u32;
@@ -71,7 +72,7 @@ pub(crate) fn tensor(
     ensures names { collector.new.names ≡ collector.old.names }
 {
     let qubits = u64::from(left.qubits) + u64::from(right.qubits);
-    if qubits > 16 {
+    if qubits > u64::from(MOST_QUBITS) {
         return Err(SetFault::QubitCount { at });
     }
     let expr = Expr::Tensor {

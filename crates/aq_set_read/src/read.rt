@@ -1,17 +1,17 @@
 //! Set files, from their bytes.
 ghost use Rattle.std.specs.Prelude.{◌≤◌, List, ℕ, length, IfOk, IfErr};
 ghost use Rattle.aq_set_read.specs.Texts.{HasSetTree, HasTreeFault, SaysSets, SetFaultOf};
-ghost use Rattle.aq_set_read.specs.Told.{FaultOf};
-ghost use Rattle.aq_set_read.specs.Valid.{IsValidSets};
+ghost use Rattle.aq_set_parse.specs.Told.{FaultOf};
+ghost use Rattle.aq_sets.specs.Valid.{IsValidSets};
 
-use crate::fault::SetLexFault;
-use crate::lexer::tokens_of_sets;
+use aq_set_parse::SetLexFault;
+use aq_set_parse::tokens_of_sets;
 use crate::meaning::sets_of_tree;
-use crate::parse_fault::SetParseFault;
-use crate::parser::parse_sets;
+use aq_set_parse::SetParseFault;
+use aq_set_parse::parse_sets;
 use crate::set_fault::SetFault;
-use crate::sets::Sets;
-use crate::tree::SetTree;
+use aq_sets::Sets;
+use aq_set_parse::SetTree;
 use std::alloc::Global;
 
 /// The fault of a set file whose bytes have this fault.

@@ -20,7 +20,8 @@ use Rattle.aq_top.specs.Clauses.{IsAnswer, Reports, Ends, ToldIsCorrect, ReadsFa
 use Rattle.aq_top.specs.Ends.{MayHold, ReadsTask, HasCause, stop_text, stop_status, verdict_status, post_report, IsEndText, EndsAs}
 use Rattle.aq_top.specs.Lines.{usage_text}
 use Rattle.aq_top.specs.Said.{Said}
-use Rattle.aq_top.specs.Tasks.{Task, IsTask, claims_asked, most_steps, enough_for, obligation_of, program_of}
+use Rattle.aq_base.specs.Limits.{most_steps}
+use Rattle.aq_top.specs.Tasks.{Task, IsTask, claims_asked, enough_for, obligation_of, program_of}
 use Rattle.aq_top.specs.Words.{CheckWords}
 use Rattle.aq_top.specs.declared.load.Stop.{Stop}
 use Rattle.aq_top.specs.declared.load.Stop.TheVariants as stop

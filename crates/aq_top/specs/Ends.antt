@@ -1,5 +1,6 @@
 -- How a run ends: what is written in the end, and why.
 use Rattle.std.specs.Prelude.{◌≡◌, ℕ, ◌<◌, ◌≤◌, true, false, List, [], ◌∷◌, length, Option, Some, None, IfSome, Err, ◌⊎◌}
+use Rattle.aq_base.specs.Limits.{most_program_bytes, most_sets_bytes, most_steps}
 use Rattle.aq_world.specs.Causes.{Rose, Blame}
 use Rattle.aq_world.specs.Held.{Held, bytes_at}
 use Rattle.aq_world.specs.Prints.{IsPrefixOf}
@@ -12,27 +13,20 @@ use Rattle.aq_prog.specs.declared.program.Program.{Program}
 use Rattle.aq_elab.specs.Texts.{SaysProgram}
 use Rattle.aq_set_read.specs.Texts.{SaysSets, SetFaultOf}
 use Rattle.aq_set_read.specs.declared.set_fault.SetFault.{SetFault}
-use Rattle.aq_set_read.specs.declared.sets.Sets.{Sets}
+use Rattle.aq_sets.specs.declared.sets.Sets.{Sets}
 use Rattle.aq_obligations.specs.declared.bound.ClaimFault.{ClaimFault}
 use Rattle.aq_obligations.specs.declared.bound.ClaimFault.TheVariants as bound
 use Rattle.aq_judge.specs.Bodies.{are_gates}
 use Rattle.aq_top.specs.Faults.{HasProgramFault, fault_line, fault_status}
 use Rattle.aq_top.specs.SetFaults.{set_fault_line, set_fault_status, claim_fault_line, claim_fault_status}
 use Rattle.aq_top.specs.Lines.{usage_text, program_too_long, program_unbuilt, sets_too_long, memory_line, read_fault_line}
-use Rattle.aq_top.specs.Tasks.{Task, IsTask, claims_asked, most_steps, enough_for, obligation_of}
+use Rattle.aq_top.specs.Tasks.{Task, IsTask, claims_asked, enough_for, obligation_of}
 use Rattle.aq_top.specs.Words.{CheckWords}
 use Rattle.aq_top.specs.declared.load.Stop.{Stop}
 use Rattle.aq_top.specs.declared.load.Stop.TheVariants as stop
 use Rattle.aq_top.specs.declared.program.ProgramFault.{ProgramFault}
 use Rattle.aq_top.specs.declared.status.Status.{Status}
 use Rattle.aq_top.specs.declared.status.Status.TheVariants as status
-
--- the longest program and the longest set text that are read, in bytes
-abbrev pub most_program : ℕ
-most_program = 1048576
-
-abbrev pub most_sets : ℕ
-most_sets = 4194304
 
 -- These may be the bytes of the file: they are, where the shelf tells them.
 abbrev pub MayHold : Option Held → List ℕ → List ℕ → Type 0
@@ -50,32 +44,32 @@ ReadFailedOf before now blame name = Rose before now × (blame ≡ record { name
 pub record ReadsProgram (told : Option Held) (name : List ℕ) (program : Program) : Type 0 where
   pub bytes : List ℕ
   pub held : MayHold told name bytes
-  pub fits : length bytes ≤ most_program
+  pub fits : length bytes ≤ most_program_bytes
   pub says : SaysProgram bytes program
 
 -- the sets' file was read, and says these sets
 pub record ReadsSets (told : Option Held) (name : List ℕ) (sets : Sets) : Type 0 where
   pub bytes : List ℕ
   pub held : MayHold told name bytes
-  pub fits : length bytes ≤ most_sets
+  pub fits : length bytes ≤ most_sets_bytes
   pub says : SaysSets bytes sets
 
 -- both files were read, and say this, and the program has gates alone
 pub record ReadsTask (told : Option Held) (words : CheckWords) (t : Task) : Type 0 where
   pub program : List ℕ
   pub program_held : MayHold told words.program program
-  pub program_fits : length program ≤ most_program
+  pub program_fits : length program ≤ most_program_bytes
   pub gates : are_gates t.program.body ≡ true
   pub sets : List ℕ
   pub sets_held : MayHold told words.sets sets
-  pub sets_fit : length sets ≤ most_sets
+  pub sets_fit : length sets ≤ most_sets_bytes
   pub says : IsTask program sets t
 
 -- the program's file was read, and has this fault
 pub record HasFault (told : Option Held) (name : List ℕ) (f : ProgramFault) : Type 0 where
   pub bytes : List ℕ
   pub held : MayHold told name bytes
-  pub fits : length bytes ≤ most_program
+  pub fits : length bytes ≤ most_program_bytes
   pub fault : HasProgramFault bytes f
 
 -- the program's file was read, and says a program with a statement other than a gate
@@ -88,7 +82,7 @@ pub record NotGatesAlone (told : Option Held) (name : List ℕ) : Type 0 where
 pub record HasSetFault (told : Option Held) (name : List ℕ) (f : SetFault) : Type 0 where
   pub bytes : List ℕ
   pub held : MayHold told name bytes
-  pub fits : length bytes ≤ most_sets
+  pub fits : length bytes ≤ most_sets_bytes
   pub fault : SetFaultOf bytes f
 
 -- the program has gates alone, and this holds besides
@@ -115,11 +109,11 @@ pub record HasClaimFault (told : Option Held) (words : CheckWords) (f : ClaimFau
 -- alone, and the claims are looked up only behind sets.
 abbrev pub HasCause : Option Held → (List ℕ → Type 0) → CheckWords → Stop → Type 0
 HasCause told ReadFailed words stop.ProgramUnread = ReadFailed words.program
-HasCause told ReadFailed words stop.ProgramTooLong = IsLonger told words.program most_program
+HasCause told ReadFailed words stop.ProgramTooLong = IsLonger told words.program most_program_bytes
 HasCause told ReadFailed words (stop.ProgramRefused f) = HasFault told words.program f
 HasCause told ReadFailed words stop.ProgramUnbuilt = NotGatesAlone told words.program
 HasCause told ReadFailed words stop.SetsUnread = BehindProgram told words.program (ReadFailed words.sets)
-HasCause told ReadFailed words stop.SetsTooLong = BehindProgram told words.program (IsLonger told words.sets most_sets)
+HasCause told ReadFailed words stop.SetsTooLong = BehindProgram told words.program (IsLonger told words.sets most_sets_bytes)
 HasCause told ReadFailed words (stop.SetsRefused f) = BehindProgram told words.program (HasSetFault told words.sets f)
 HasCause told ReadFailed words (stop.ClaimRefused f) = HasClaimFault told words f
 HasCause told ReadFailed words stop.Memory = Unit {0}
@@ -127,7 +121,7 @@ HasCause told ReadFailed words stop.Memory = Unit {0}
 -- why the program isn't read
 abbrev pub ProgramCause : Option Held → (List ℕ → Type 0) → List ℕ → Stop → Type 0
 ProgramCause told ReadFailed name stop.ProgramUnread = ReadFailed name
-ProgramCause told ReadFailed name stop.ProgramTooLong = IsLonger told name most_program
+ProgramCause told ReadFailed name stop.ProgramTooLong = IsLonger told name most_program_bytes
 ProgramCause told ReadFailed name (stop.ProgramRefused f) = HasFault told name f
 ProgramCause told ReadFailed name stop.ProgramUnbuilt = NotGatesAlone told name
 ProgramCause told ReadFailed name stop.SetsUnread = ⊥
@@ -143,7 +137,7 @@ SetsCause told ReadFailed name stop.ProgramTooLong = ⊥
 SetsCause told ReadFailed name (stop.ProgramRefused f) = ⊥
 SetsCause told ReadFailed name stop.ProgramUnbuilt = ⊥
 SetsCause told ReadFailed name stop.SetsUnread = ReadFailed name
-SetsCause told ReadFailed name stop.SetsTooLong = IsLonger told name most_sets
+SetsCause told ReadFailed name stop.SetsTooLong = IsLonger told name most_sets_bytes
 SetsCause told ReadFailed name (stop.SetsRefused f) = HasSetFault told name f
 SetsCause told ReadFailed name (stop.ClaimRefused f) = ⊥
 SetsCause told ReadFailed name stop.Memory = Unit {0}

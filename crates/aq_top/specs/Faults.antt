@@ -11,7 +11,8 @@ use Rattle.aq_parse.specs.Pieces.{pieces}
 use Rattle.aq_parse.specs.Verdict as parse
 use Rattle.aq_parse.specs.declared.fault.ParseFault.{ParseFault}
 use Rattle.aq_parse.specs.declared.fault.ParseFault.TheVariants as parsed
-use Rattle.aq_elab.specs.Texts.{most_deep, SaysNoProgram}
+use Rattle.aq_base.specs.Limits.{most_nested}
+use Rattle.aq_elab.specs.Texts.{SaysNoProgram}
 use Rattle.aq_elab.specs.declared.fault.ElabFault.{ElabFault}
 use Rattle.aq_elab.specs.declared.fault.ElabFault.TheVariants as meant
 use Rattle.aq_report.specs.Texts.{newline}
@@ -27,7 +28,7 @@ use Rattle.aq_top.specs.declared.status.Status.TheVariants as status
 pub record HasParseFault (text : List ℕ) (f : ParseFault) : Type 0 where
   pub tokens : List Token
   pub cut : Reads text (Ok tokens)
-  pub first : parse.FaultOf most_deep f (pieces (record { source = text; list = tokens }))
+  pub first : parse.FaultOf most_nested f (pieces (record { source = text; list = tokens }))
 
 -- The text says no program: this is the first fault of its tokens; or it has tokens, and this is the first fault of their
 -- tree; or it has a tree, and this is the first fault of its meaning. For want of memory there need be none.

@@ -2,7 +2,7 @@
 use Rattle.std.specs.Prelude.{◌≡◌, ℕ, List, Ok, codes}
 use Rattle.aq_prog.specs.declared.program.Program.{Program}
 use Rattle.aq_set_read.specs.Texts.{SaysSets}
-use Rattle.aq_set_read.specs.declared.sets.Sets.{Sets}
+use Rattle.aq_sets.specs.declared.sets.Sets.{Sets}
 use Rattle.aq_elab.specs.Texts.{SaysProgram}
 use Rattle.aq_obligations.specs.Asking.{annotated, obligation_at_end}
 use Rattle.aq_obligations.specs.Bound.{Checked, Asked, asked}
@@ -13,10 +13,6 @@ use Rattle.aq_judge.specs.Owed.{steps_of}
 -- the claims that are asked of a program, by name
 abbrev pub claims_asked : Program → Sets → Checked Asked
 claims_asked p s = asked p s (codes "pre") (codes "post")
-
--- the limit of steps
-abbrev pub most_steps : ℕ
-most_steps = 20000000
 
 -- a program, sets, and the cases of the two claims that are asked
 pub record Task : Type 0 where

@@ -1,10 +1,11 @@
 ghost use Rattle.std.specs.Prelude.{◌≡◌, true, All};
 ghost use Rattle.aq_prog.specs.Programs.{IsValidProgram};
-ghost use Rattle.aq_set_read.specs.Valid.{IsValidSets};
+ghost use Rattle.aq_sets.specs.Valid.{IsValidSets};
 ghost use Rattle.aq_judge.specs.Bodies.{are_gates};
 ghost use Rattle.aq_obligations.specs.Bound.{IsBoundCase};
 ghost use Rattle.aq_report.specs.Verdicts.{IsJustified};
-ghost use Rattle.aq_top.specs.Tasks.{most_steps, task_of, enough_for, obligation_of};
+ghost use Rattle.aq_base.specs.Limits.{most_steps};
+ghost use Rattle.aq_top.specs.Tasks.{task_of, enough_for, obligation_of};
 
 use crate::load::Loaded;
 use aq_report::Verdict;

@@ -1,6 +1,6 @@
 ghost use Rattle.std.specs.Prelude.{◌≡◌, ◌≤◌, true, All, IfOk, IfErr, Ok};
 ghost use Rattle.aq_prog.specs.Programs.{IsValidProgram};
-ghost use Rattle.aq_set_read.specs.Valid.{IsValidSets};
+ghost use Rattle.aq_sets.specs.Valid.{IsValidSets};
 ghost use Rattle.aq_judge.specs.Bodies.{are_gates};
 ghost use Rattle.aq_obligations.specs.Bound.{IsBoundCase};
 ghost use Rattle.aq_top.specs.Ends.{ReadFailedOf, ReadsProgram, ReadsSets, ReadsTask, HasCause, ProgramCause, SetsCause, ClaimFaultOf};

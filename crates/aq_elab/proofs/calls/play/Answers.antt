@@ -6,7 +6,8 @@ use Rattle.std.proofs.lemmas.Result.{err_from_is_err_and}
 use Rattle.aq_parse.specs.declared.tree.Spot.{Spot}
 use Rattle.aq_prog.specs.Digits.{tabulate}
 use Rattle.aq_prog.specs.declared.gate.Gate.{Gate}
-use Rattle.aq_elab.specs.Known.{Checked, ◌>>◌}
+use Rattle.aq_base.specs.Checks.{◌>>◌}
+use Rattle.aq_elab.specs.Known.{Checked}
 use Rattle.aq_elab.specs.Calls.{no_repeat, no_repeats, played, gates_on, instance}
 use Rattle.aq_elab.specs.declared.fault.ElabFault.{ElabFault}
 use Rattle.aq_elab.specs.declared.recipe.Recipe.{Recipe}

@@ -1,6 +1,6 @@
 use Rattle.std.proofs.Common.{◌≡◌, ◌++◌, drop, Ok}
 use Rattle.std.specs.List.{All}
-use Rattle.aq_elab.specs.Known.{all_checked, ◌>>=◌}
+use Rattle.aq_base.specs.Checks.{all_checked, ◌>>=◌}
 use Rattle.aq_elab.specs.Bounds.{IsShort}
 use Rattle.aq_elab.specs.Spots.{span_of}
 use Rattle.aq_elab.specs.declared.scope.Role.TheVariants as roles

@@ -1,5 +1,5 @@
 use Rattle.std.proofs.lemmas.Result.{err_from_is_err_and}
-use Rattle.aq_set_read.specs.Vectors.{products_of}
+use Rattle.aq_sets.specs.Vectors.{products_of}
 use Rattle.aq_obligations.specs.Asking.{products_in}
 use Rattle.aq_judge.specs.Finding.{HasWide}
 use Rattle.aq_judge.proofs.MetLaws.{wide_in, stops_too}

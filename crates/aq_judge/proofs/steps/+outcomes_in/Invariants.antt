@@ -1,5 +1,5 @@
 use Rattle.std.proofs.Common.{◌≡◌, ◌+◌, ◌≤◌, ◌^◌, drop}
-use Rattle.aq_plain.specs.Caps.{capped}
+use Rattle.aq_sets.specs.Caps.{capped}
 use Rattle.aq_obligations.specs.Enough.{outcomes}
 use Rattle.aq_judge.proofs.steps.+outcomes_in.Given as goal
 

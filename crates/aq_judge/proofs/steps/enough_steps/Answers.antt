@@ -1,8 +1,8 @@
 use Rattle.std.proofs.Common.{◌+◌, List, length, ◌∙◌, ap}
 use Rattle.std.specs.List.{count_by, range_with_len}
 use Rattle.aq_prog.specs.declared.stmt.Stmt.{Stmt}
-use Rattle.aq_plain.specs.Caps.{capped}
-use Rattle.aq_plain.proofs.ToldLaws.{length-told}
+use Rattle.aq_sets.specs.Caps.{capped}
+use Rattle.aq_sets.proofs.ToldLaws.{length-told}
 use Rattle.aq_obligations.specs.Enough.{statements, outcomes, mentioned_bits, words_of, weight_of}
 use Rattle.aq_judge.specs.Counting.{is_named_in}
 use Rattle.aq_judge.specs.Owed.{work_of}

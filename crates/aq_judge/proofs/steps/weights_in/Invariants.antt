@@ -1,7 +1,7 @@
 use Rattle.std.proofs.Common.{◌≡◌, ◌+◌, ◌≤◌, ◌^◌, drop}
 use Rattle.std.specs.List.{sum_by}
-use Rattle.aq_set_read.specs.declared.sets.Sets.{Sets}
-use Rattle.aq_plain.specs.Caps.{capped, capped_sizes}
+use Rattle.aq_sets.specs.declared.sets.Sets.{Sets}
+use Rattle.aq_sets.specs.Caps.{capped, capped_sizes}
 use Rattle.aq_obligations.specs.Enough.{weight_of}
 use Rattle.aq_judge.proofs.steps.weights_in.Given as goal
 

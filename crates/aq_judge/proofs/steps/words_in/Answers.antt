@@ -1,5 +1,5 @@
 use Rattle.std.proofs.Common.{◌∙◌, length, ap, arith}
-use Rattle.aq_plain.specs.Caps.{capped}
+use Rattle.aq_sets.specs.Caps.{capped}
 use Rattle.aq_obligations.specs.Enough.{words_of}
 use Rattle.aq_obligations.specs.declared.bound.BoundCase.{BoundCase}
 use Rattle.aq_judge.proofs.StepLaws.{sum_more, words_told, case_within}

@@ -1,5 +1,5 @@
 use Rattle.std.proofs.Common.{◌∙◌, [], ◌∷◌, ◌++◌, ap}
-use Rattle.aq_set_read.specs.declared.sets.Expr.TheVariants as expr
+use Rattle.aq_sets.specs.declared.sets.Expr.TheVariants as expr
 use Rattle.aq_judge.specs.Examples.{one_ket, both_kets}
 use Rattle.aq_judge.proofs.tests.exprs.Goals as goal
 

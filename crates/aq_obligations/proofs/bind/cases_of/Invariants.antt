@@ -1,5 +1,6 @@
 use Rattle.std.proofs.Common.{◌≡◌, ◌++◌, drop, Ok}
-use Rattle.aq_obligations.specs.Bound.{all_checked, bound_case, ◌>>=◌}
+use Rattle.aq_base.specs.Checks.{all_checked, ◌>>=◌}
+use Rattle.aq_obligations.specs.Bound.{bound_case}
 use Rattle.aq_obligations.proofs.bind.cases_of.Given as goal
 
 abbrev pub invariant-loop-case : goal.invariant-loop-case

@@ -1,5 +1,6 @@
 use Rattle.std.proofs.Common.{◌≡◌, ◌++◌, drop, Ok}
-use Rattle.aq_obligations.specs.Bound.{all_checked, bound_cond, ◌>>=◌}
+use Rattle.aq_base.specs.Checks.{all_checked, ◌>>=◌}
+use Rattle.aq_obligations.specs.Bound.{bound_cond}
 use Rattle.aq_obligations.proofs.bind.guards_of.Given as goal
 
 abbrev pub invariant-loop-cond : goal.invariant-loop-cond

@@ -1,9 +1,9 @@
 use Rattle.std.proofs.Common.{◌≡◌, ◌∙◌, ◌≤◌, List, ℕ, length, refl, subst, sym}
 use Rattle.std.specs.Prelude.{slice_get, Some}
 use Rattle.std.proofs.lemmas.Option.{slice_get_read}
-use Rattle.aq_set_read.specs.Gathered.{most_qubits}
+use Rattle.aq_base.specs.Limits.{most_qubits}
 use Rattle.aq_obligations.specs.Qubits.{qubits_step}
-use Rattle.aq_set_read.specs.declared.sets.Expr.{Expr}
+use Rattle.aq_sets.specs.declared.sets.Expr.{Expr}
 use Rattle.aq_obligations.proofs.QubitLaws.{few_by_step}
 use Rattle.aq_obligations.proofs.qubits.qubits_of_all.Goals as goal
 

@@ -1,6 +1,6 @@
 use Rattle.std.proofs.Common.{◌≡◌, take}
-use Rattle.aq_set_read.specs.Tables.{table}
-use Rattle.aq_set_read.specs.Sizes.{size_step}
+use Rattle.aq_sets.specs.Tables.{table}
+use Rattle.aq_sets.specs.Sizes.{size_step}
 use Rattle.aq_obligations.proofs.QubitLaws.{qubits_in}
 use Rattle.aq_obligations.proofs.qubits.qubits_of_all.Given as goal
 

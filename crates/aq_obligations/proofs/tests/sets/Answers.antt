@@ -1,5 +1,5 @@
 use Rattle.std.proofs.Common.{◌≡◌, List, [], ◌∷◌, ◌++◌, ◌∙◌}
-use Rattle.aq_set_read.specs.declared.sets.Expr.TheVariants as expr
+use Rattle.aq_sets.specs.declared.sets.Expr.TheVariants as expr
 use Rattle.aq_obligations.proofs.ExampleLaws.{valid_sets, two_pushed}
 use Rattle.aq_obligations.proofs.tests.sets.Goals as goal
 

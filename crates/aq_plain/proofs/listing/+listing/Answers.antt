@@ -1,10 +1,10 @@
 use Rattle.std.proofs.Common.{◌<◌, ◌^◌, ◌++◌, ◌∷◌, [], ◌∙◌, List, All, take, get_or, ap, sym, subst, arith}
 use Rattle.std.proofs.lemmas.Result.{err_from_is_err_and}
-use Rattle.aq_set_read.specs.Vectors.{Listed, lists, kets_vector}
-use Rattle.aq_set_read.specs.declared.sets.Term.{Term}
-use Rattle.aq_set_read.specs.declared.sets.Expr.TheVariants as expr
+use Rattle.aq_sets.specs.Vectors.{Listed, lists, kets_vector}
+use Rattle.aq_sets.specs.declared.sets.Term.{Term}
+use Rattle.aq_sets.specs.declared.sets.Expr.TheVariants as expr
 use Rattle.aq_plain.specs.Listing.{lists_in_turn}
-use Rattle.aq_plain.proofs.ToldLaws.{expr_at, few_all}
+use Rattle.aq_sets.proofs.ToldLaws.{expr_at, few_all}
 use Rattle.aq_plain.proofs.TakeLaws.{fit_append, fit_same, stops_same}
 use Rattle.aq_plain.proofs.PartLaws.{in_turn_more, stops_in_turn, few_kets, two_times, takes_kets, takes_all, takes_tensor, takes_power, stops_tensor_left, stops_tensor_right, stops_tensor, stops_power_base, stops_power_at}
 use Rattle.aq_plain.proofs.listing.+listing.Goals as goal

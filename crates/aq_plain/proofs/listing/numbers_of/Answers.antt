@@ -1,6 +1,6 @@
 use Rattle.std.proofs.Common.{◌∙◌, ap, arith}
-use Rattle.aq_plain.specs.declared.sizes.Size as told
-use Rattle.aq_plain.proofs.ToldLaws.{length-told, told_at}
+use Rattle.aq_sets.specs.declared.sizes.Size as told
+use Rattle.aq_sets.proofs.ToldLaws.{length-told, told_at}
 use Rattle.aq_plain.proofs.listing.numbers_of.Goals as goal
 
 pub bounds-as_slice-expr : goal.bounds-as_slice-expr

@@ -1,7 +1,7 @@
 use Rattle.std.proofs.Common.{◌∙◌, arith}
 use Rattle.std.proofs.lemmas.Result.{err_from_is_err_and}
 use Rattle.aq_plain.specs.Listing.{states_of}
-use Rattle.aq_plain.proofs.ToldLaws.{valid_exprs}
+use Rattle.aq_sets.proofs.ToldLaws.{valid_exprs}
 use Rattle.aq_plain.proofs.WholeLaws.{too_many, not_too_many, long_rows, gives_stop}
 use Rattle.aq_plain.proofs.listing.vectors.Goals as goal
 

@@ -1,10 +1,10 @@
 use Rattle.std.proofs.Common.{◌∙◌, ◌≤◌, List, ℕ, ap, sym, subst, arith}
 use Rattle.std.specs.List.{All}
 use Rattle.std.proofs.lemmas.List.Elements.{All-append}
-use Rattle.aq_set_read.specs.Vectors.{united}
+use Rattle.aq_sets.specs.Vectors.{united}
 use Rattle.aq_plain.specs.Listing.{lists_in_turn, IsPartOf, kept, opened}
 use Rattle.aq_plain.proofs.PartLaws.{pending, step_same, step_fewer, kept_parts, opened_below, popped_below}
-use Rattle.aq_plain.proofs.ToldLaws.{expr_at}
+use Rattle.aq_sets.proofs.ToldLaws.{expr_at}
 use Rattle.std.proofs.Common.{refl}
 use Rattle.aq_plain.proofs.parts.parts_of.Goals as goal
 

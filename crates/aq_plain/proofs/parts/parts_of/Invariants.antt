@@ -1,5 +1,5 @@
 use Rattle.std.proofs.Common.{◌≡◌, ◌≤◌, All}
-use Rattle.aq_set_read.specs.Vectors.{united, lists}
+use Rattle.aq_sets.specs.Vectors.{united, lists}
 use Rattle.aq_plain.specs.Listing.{lists_in_turn, IsPartOf}
 use Rattle.aq_plain.proofs.PartLaws.{pending, nodes_in}
 use Rattle.aq_plain.proofs.parts.parts_of.Given as goal

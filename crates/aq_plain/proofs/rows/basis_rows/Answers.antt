@@ -2,7 +2,7 @@ use Rattle.std.proofs.Common.{◌∙◌, ◌++◌, ◌∷◌, [], List, ap, sym,
 use Rattle.std.specs.Prelude.{map}
 use Rattle.std.specs.List.{range_with_len}
 use Rattle.std.proofs.lemmas.List.FromFn.{map-range_with_len_more}
-use Rattle.aq_set_read.specs.Vectors.{Vector, basis_vector}
+use Rattle.aq_sets.specs.Vectors.{Vector, basis_vector}
 use Rattle.aq_plain.proofs.rows.basis_rows.Goals as goal
 
 pub loop-index-preserved : goal.loop-index-preserved

@@ -1,5 +1,5 @@
 use Rattle.std.proofs.Common.{◌∙◌, ◌-◌, length, ap, arith}
-use Rattle.aq_plain.proofs.SizeLaws.{length-kets_vector}
+use Rattle.aq_sets.proofs.SizeLaws.{length-kets_vector}
 use Rattle.aq_plain.proofs.RowLaws.{kets_start, kets_step, index_within}
 use Rattle.aq_plain.proofs.rows.kets_row.Goals as goal
 

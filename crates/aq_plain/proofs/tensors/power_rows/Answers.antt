@@ -1,6 +1,6 @@
 use Rattle.std.proofs.Common.{◌+◌, ◌∙◌, refl, arith}
 use Rattle.std.proofs.lemmas.Result.{err_from_is_err_and}
-use Rattle.aq_set_read.specs.Vectors.{all_pairs, listed, power}
+use Rattle.aq_sets.specs.Vectors.{all_pairs, listed, power}
 use Rattle.aq_plain.proofs.TakeLaws.{fit_append, fit_same, stops_right, stops_same, stops_power, power_next}
 use Rattle.aq_plain.proofs.tensors.power_rows.Goals as goal
 

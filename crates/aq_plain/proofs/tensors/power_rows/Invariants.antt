@@ -1,5 +1,5 @@
 use Rattle.std.proofs.Common.{◌≡◌}
-use Rattle.aq_set_read.specs.Vectors.{listed, power}
+use Rattle.aq_sets.specs.Vectors.{listed, power}
 use Rattle.aq_plain.specs.Listing.{AllFit}
 use Rattle.aq_plain.proofs.tensors.power_rows.Given as goal
 

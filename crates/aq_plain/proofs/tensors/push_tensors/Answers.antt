@@ -3,7 +3,7 @@ use Rattle.std.specs.Prelude.{map}
 use Rattle.std.specs.List.{flat_map}
 use Rattle.std.proofs.lemmas.List.{append_assoc}
 use Rattle.std.proofs.lemmas.Result.{err_from_is_err_and}
-use Rattle.aq_set_read.specs.Vectors.{Vector, tensor, pairs}
+use Rattle.aq_sets.specs.Vectors.{Vector, tensor, pairs}
 use Rattle.aq_plain.proofs.TakeLaws.{fit_append, fit_same, map_take_more, flat_map_take_more, stops_at}
 use Rattle.aq_plain.proofs.tensors.push_tensors.Goals as goal
 

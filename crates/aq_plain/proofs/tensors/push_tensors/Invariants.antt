@@ -1,7 +1,7 @@
 use Rattle.std.proofs.Common.{◌≡◌, ◌++◌, take}
 use Rattle.std.specs.Prelude.{map}
 use Rattle.std.specs.List.{flat_map}
-use Rattle.aq_set_read.specs.Vectors.{tensor, pairs}
+use Rattle.aq_sets.specs.Vectors.{tensor, pairs}
 use Rattle.aq_plain.specs.Listing.{AllFit}
 use Rattle.aq_plain.proofs.tensors.push_tensors.Given as goal
 

@@ -3,7 +3,7 @@ use Rattle.std.specs.Prelude.{map}
 use Rattle.std.proofs.lemmas.Result.{err_from_is_err_and}
 use Rattle.aq_ring.specs.Fractions.{Amplitude}
 use Rattle.aq_ring.specs.Amplitudes.{product}
-use Rattle.aq_set_read.specs.Vectors.{pairs}
+use Rattle.aq_sets.specs.Vectors.{pairs}
 use Rattle.aq_plain.proofs.TakeLaws.{fit_none, fit_append, fit_same, tensor_none, tensor_more, flat_map_take_more, stops_at}
 use Rattle.aq_plain.proofs.tensors.tensor_row.Goals as goal
 

@@ -1,5 +1,5 @@
 use Rattle.std.proofs.Common.{◌≡◌, take}
-use Rattle.aq_set_read.specs.Vectors.{tensor, pairs}
+use Rattle.aq_sets.specs.Vectors.{tensor, pairs}
 use Rattle.aq_plain.specs.Listing.{AllFit}
 use Rattle.aq_plain.proofs.tensors.tensor_row.Given as goal
 

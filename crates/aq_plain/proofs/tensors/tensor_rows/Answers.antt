@@ -2,7 +2,7 @@ use Rattle.std.proofs.Common.{◌∙◌, ◌++◌, List, take, ap, arith}
 use Rattle.std.specs.Prelude.{map}
 use Rattle.std.specs.List.{flat_map}
 use Rattle.std.proofs.lemmas.Result.{err_from_is_err_and}
-use Rattle.aq_set_read.specs.Vectors.{Vector, tensor, pairs, all_pairs}
+use Rattle.aq_sets.specs.Vectors.{Vector, tensor, pairs, all_pairs}
 use Rattle.aq_plain.proofs.TakeLaws.{fit_append, fit_same, flat_map_take_more, stops_at}
 use Rattle.aq_plain.proofs.tensors.tensor_rows.Goals as goal
 

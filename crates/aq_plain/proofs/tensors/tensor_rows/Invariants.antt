@@ -1,5 +1,5 @@
 use Rattle.std.proofs.Common.{◌≡◌, take}
-use Rattle.aq_set_read.specs.Vectors.{tensors, all_pairs}
+use Rattle.aq_sets.specs.Vectors.{tensors, all_pairs}
 use Rattle.aq_plain.specs.Listing.{AllFit}
 use Rattle.aq_plain.proofs.tensors.tensor_rows.Given as goal
 

@@ -1,5 +1,5 @@
 use Rattle.std.proofs.Common.{◌∙◌, ap, not, ◌++◌, ◌∷◌, [], List, Ok, sym}
-use Rattle.aq_set_read.specs.declared.sets.Term.{Term}
+use Rattle.aq_sets.specs.declared.sets.Term.{Term}
 use Rattle.aq_set_read.proofs.BracketLaws.{new_index, term_repeated, term_new}
 use Rattle.aq_set_read.proofs.brackets.Terms.with.Goals as goal
 

@@ -1,6 +1,0 @@
-use Rattle.std.proofs.Common.{◌≡◌, ◌^◌}
-use Rattle.aq_plain.specs.Caps.{capped}
-use Rattle.aq_plain.proofs.sizes.capped_power.Given as goal
-
-abbrev pub invariant-loop-i : goal.invariant-loop-i
-invariant-loop-i l = l.power ≡ capped (l.base ^ l.i)

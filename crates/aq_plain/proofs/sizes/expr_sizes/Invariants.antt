@@ -1,6 +1,0 @@
-use Rattle.std.proofs.Common.{◌≡◌, take}
-use Rattle.aq_plain.specs.Caps.{capped_sizes}
-use Rattle.aq_plain.proofs.sizes.expr_sizes.Given as goal
-
-abbrev pub invariant-loop-i : goal.invariant-loop-i
-invariant-loop-i l = l.list ≡ capped_sizes (take l.i l.exprs)

@@ -1,0 +1,13 @@
+pub mod Rules
+pub mod Cuts
+pub mod Fronts
+pub mod Told
+pub mod Listed
+pub mod Piece
+pub mod Words
+pub mod Pieces
+pub mod Tokens
+pub mod SetGrammar
+pub mod Reading
+pub mod Places
+pub mod Verdict

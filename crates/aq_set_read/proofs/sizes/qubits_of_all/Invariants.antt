@@ -1,8 +1,0 @@
-use Rattle.std.proofs.Common.{◌≡◌, take}
-use Rattle.aq_set_read.specs.Tables.{table}
-use Rattle.aq_set_read.specs.Sizes.{size_step}
-use Rattle.aq_set_read.proofs.QubitLaws.{qubits_in}
-use Rattle.aq_set_read.proofs.sizes.qubits_of_all.Given as goal
-
-abbrev pub invariant-loop-expr : goal.invariant-loop-expr
-invariant-loop-expr l = l.list ≡ qubits_in (table size_step (take l.expr-index l.sets.exprs))
