@@ -1,9 +1,23 @@
 ghost use Rattle.std.specs.Prelude.{◌≡◌, ◌++◌, [], ◌∷◌, ℕ, List, codes};
 ghost use Rattle.std.specs.Fmt.{decimal};
 ghost use Rattle.aq_world.specs.Prints.{Prints};
-ghost use Rattle.aq_report.specs.Texts.{kind_text, located, state_text, ending_text, entry_line, entry_text,
-    entries_text, bits_line, refutation_text, why_text, outcome_text, verdict_text, summary_text, refuted_line,
-    newline};
+ghost use Rattle.aq_report.specs.Texts.{
+  kind_text,
+  located,
+  state_text,
+  ending_text,
+  entry_line,
+  entry_text,
+  entries_text,
+  bits_line,
+  refutation_text,
+  why_text,
+  outcome_text,
+  verdict_text,
+  summary_text,
+  refuted_line,
+  newline,
+};
 
 use crate::verdict::{Refutation, Verdict, Why};
 use aq_obligations::Kind;

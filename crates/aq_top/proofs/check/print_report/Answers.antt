@@ -2,7 +2,7 @@ use Rattle.std.proofs.Common.{◌∙◌, ap, Err}
 use Rattle.std.proofs.lemmas.Result.{err_from_is_err_and}
 use Rattle.aq_world.proofs.PrintsLemmas.{Prints-then, Prints-stops}
 use Rattle.aq_top.proofs.SayLemmas.{post_report_is}
-use Rattle.aq_top.proofs.say.print_report.Goals as goal
+use Rattle.aq_top.proofs.check.print_report.Goals as goal
 
 pub returns-in_err-print_verdict : goal.returns-in_err-print_verdict
 returns-in_err-print_verdict g c =

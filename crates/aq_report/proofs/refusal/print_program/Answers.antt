@@ -1,7 +1,7 @@
 use Rattle.std.proofs.Common.{append_assoc}
+use Rattle.aq_report.specs.Refusals.{program_line}
 use Rattle.aq_report.specs.Texts.{newline}
-use Rattle.aq_top.specs.Faults.{program_line}
-use Rattle.aq_top.proofs.refuse.print_told.Goals as goal
+use Rattle.aq_report.proofs.refusal.print_program.Goals as goal
 
 pub returns : goal.returns
 unfolding program_line
