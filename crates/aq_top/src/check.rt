@@ -8,8 +8,17 @@ ghost use Rattle.aq_sets.specs.Valid.{IsValidSets};
 ghost use Rattle.aq_judge.specs.Bodies.{are_gates};
 ghost use Rattle.aq_obligations.specs.Bound.{IsBoundCase};
 ghost use Rattle.aq_report.specs.Verdicts.{IsJustified};
-ghost use Rattle.aq_top.specs.Check.{CheckCause, CheckEnd, ClaimFaultOf, ReadsTask, TellsClaimFault, check_words,
-    files_of, post_report, verdict_status};
+ghost use Rattle.aq_top.specs.Check.{
+  CheckCause,
+  CheckEnd,
+  ClaimFaultOf,
+  ReadsTask,
+  TellsClaimFault,
+  check_words,
+  files_of,
+  post_report,
+  verdict_status,
+};
 ghost use Rattle.aq_top.specs.Ends.{Ends, IsText};
 ghost use Rattle.aq_top.specs.Reads.{ReadFailedOf};
 ghost use Rattle.aq_top.specs.Tasks.{claims_asked, enough_for, obligation_of, task_of};

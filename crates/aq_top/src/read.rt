@@ -3,8 +3,15 @@ ghost use Rattle.std.specs.Prelude.{◌≡◌, ◌≤◌, true, IfOk, IfErr};
 ghost use Rattle.aq_prog.specs.Programs.{IsValidProgram};
 ghost use Rattle.aq_sets.specs.Valid.{IsValidSets};
 ghost use Rattle.aq_judge.specs.Bodies.{are_gates};
-ghost use Rattle.aq_top.specs.Reads.{ReadFailedOf, ReadsProgram, ReadsSets, ProgramCause, SetsCause,
-    TellsProgramFault, TellsSetFault};
+ghost use Rattle.aq_top.specs.Reads.{
+  ReadFailedOf,
+  ReadsProgram,
+  ReadsSets,
+  ProgramCause,
+  SetsCause,
+  TellsProgramFault,
+  TellsSetFault,
+};
 
 use crate::program::{ProgramFault, read_program};
 use aq_base::{MOST_PROGRAM_BYTES, MOST_SETS_BYTES};
