@@ -23,7 +23,7 @@ use Rattle.aq_elab.proofs.TextsLaws.{one_program}
 use Rattle.aq_judge.specs.Bodies.{are_gates, gates_in}
 use Rattle.aq_judge.proofs.StmtLaws.{body_is}
 use Rattle.aq_top.specs.Check.{CheckWords, CheckCause, CheckEnd, IsReport, ReadsTask, verdict_status, post_report}
-use Rattle.aq_top.specs.Clauses.{IsAnswer, IsReportOf, Reports, StatusSays, ToldIsCorrect}
+use Rattle.aq_top.specs.Clauses.{IsAnswer, IsReportOf, StatusSays, ToldIsCorrect}
 use Rattle.aq_top.specs.Commands.{Command, Check, RunEnd}
 use Rattle.aq_top.specs.Ends.{Ends, EndsAs, IsText, StoppedBy, refusal_status, status_of}
 use Rattle.aq_top.specs.Reads.{MayHold}

@@ -1,5 +1,5 @@
 -- How a run may end, whatever its command says: by a whole output, or by a front of one where the sink stopped it.
-use Rattle.std.specs.Prelude.{◌≡◌, ℕ, List, Option, Some, Result, Ok, Err, ◌⊎◌}
+use Rattle.std.specs.Prelude.{◌≡◌, ℕ, List, Some, Result, Ok, Err, ◌⊎◌}
 use Rattle.std.specs.Io.KnownBytes.{Appends}
 use Rattle.aq_world.specs.Causes.{Rose}
 use Rattle.aq_world.specs.Prints.{IsPrefixOf}

@@ -104,12 +104,14 @@ fn load<'a, S: Shelf>(
 {
     let program = load_program(alloc, words.program, shelf)?;
     let sets = load_sets(alloc, words.sets, shelf)?;
-    let claims = ask_claims(alloc, &program, &sets).map_err(refused_claim)?;
-    Ok(Loaded {
-        program,
-        sets,
-        claims,
-    })
+    match ask_claims(alloc, &program, &sets) {
+        Ok(claims) => Ok(Loaded {
+            program,
+            sets,
+            claims,
+        }),
+        Err(fault) => Err(refused_claim(fault)),
+    }
 }
 
 /// Judges what was read. The verdict is justified; it is given up for memory where that is wanting.

@@ -1,8 +1,8 @@
-ghost use Rattle.std.specs.Prelude.{◌≡◌, map, None};
+ghost use Rattle.std.specs.Prelude.{◌≡◌, map, None, Some};
 ghost use Rattle.std.specs.String.{string_bytes};
 ghost use Rattle.aq_world.specs.Causes.{Rose};
 ghost use Rattle.aq_top.specs.Clauses.{IsAnswer, Reports, ToldIsCorrect, ReadsFailed};
-ghost use Rattle.aq_top.specs.Commands.{RunEnd, command_asked};
+ghost use Rattle.aq_top.specs.Commands.{RunEnd, command_asked, command_of};
 ghost use Rattle.aq_top.specs.Ends.{Ends};
 ghost use Rattle.aq_top.specs.Reads.{ReadFailedOf};
 
@@ -13,14 +13,30 @@ use crate::status::Status;
 use aq_world::{Shelf, Sink};
 use std::alloc::Global;
 
+/// Does what a command says.
+fn obey<S: Shelf, K: Sink>(
+    alloc: Global,
+    command: Command<'_>,
+    shelf: &mut S,
+    out: &mut K,
+) -> Status
+    ensures ends { Ends K.meaning out.old out.new (RunEnd (S.meaning.holds shelf.old)
+        (ReadFailedOf S.meaning shelf.old shelf.new) (Some (command_of command.entry))) result }
+    ensures held { S.meaning.holds shelf.new ≡ S.meaning.holds shelf.old }
+{
+    match command {
+        Command::Check(words) => check(alloc, words, shelf, out),
+    }
+}
+
 /// Does what the words say, or says how the program is used.
-fn obey<S: Shelf, K: Sink>(alloc: Global, words: &[String], shelf: &mut S, out: &mut K) -> Status
+fn answer<S: Shelf, K: Sink>(alloc: Global, words: &[String], shelf: &mut S, out: &mut K) -> Status
     ensures ends { Ends K.meaning out.old out.new (RunEnd (S.meaning.holds shelf.old)
         (ReadFailedOf S.meaning shelf.old shelf.new) (command_asked (map string_bytes words.now))) result }
     ensures held { S.meaning.holds shelf.new ≡ S.meaning.holds shelf.old }
 {
     match command_asked(words) {
-        Some(Command::Check(words)) => check(alloc, words, shelf, out),
+        Some(command) => obey(alloc, command, shelf, out),
         None => say_usage(out),
     }
 }
@@ -51,5 +67,5 @@ pub fn run<S: Shelf, K: Sink>(alloc: Global, words: &[String], shelf: &mut S, ou
     // No file changes.
     ensures shelf_stays { S.meaning.holds shelf.new ≡ S.meaning.holds shelf.old }
 {
-    obey(alloc, words, shelf, out)
+    answer(alloc, words, shelf, out)
 }
