@@ -1,7 +1,9 @@
 ghost use Rattle.std.specs.Prelude.{◌≡◌, ◌++◌, [], ◌∷◌, ℕ, List, codes};
 ghost use Rattle.std.specs.Fmt.{decimal};
 ghost use Rattle.aq_world.specs.Prints.{Prints};
-ghost use Rattle.aq_report.specs.Texts.{kind_text, located, state_text, ending_text, entry_line, entry_text, entries_text, bits_line, refutation_text, why_text, outcome_text, verdict_text, summary_text, refuted_line, newline};
+ghost use Rattle.aq_report.specs.Texts.{kind_text, located, state_text, ending_text, entry_line, entry_text,
+    entries_text, bits_line, refutation_text, why_text, outcome_text, verdict_text, summary_text, refuted_line,
+    newline};
 
 use crate::verdict::{Refutation, Verdict, Why};
 use aq_obligations::Kind;
@@ -10,7 +12,7 @@ use aq_ring::Amp;
 use aq_world::{Piece, Sink, SinkFault, put_pieces, put_text};
 
 fn print_located<K: Sink>(out: &mut K, number: u32, word: &[u8], line: u32) -> Result<(), SinkFault>
-    ensures { Prints (K.told out.old) (K.told out.new) (K.faults out.old) (K.faults out.new) result (decimal number ++ located word.now line) }
+    ensures { Prints K.meaning out.old out.new result (decimal number ++ located word.now line) }
 {
     put_pieces(
         out,
@@ -24,7 +26,7 @@ fn print_located<K: Sink>(out: &mut K, number: u32, word: &[u8], line: u32) -> R
 }
 
 fn print_head<K: Sink>(out: &mut K, number: u32, kind: Kind, line: u32) -> Result<(), SinkFault>
-    ensures { Prints (K.told out.old) (K.told out.new) (K.faults out.old) (K.faults out.new) result (decimal number ++ kind_text kind line) }
+    ensures { Prints K.meaning out.old out.new result (decimal number ++ kind_text kind line) }
 {
     match kind {
         Kind::Post => put_pieces(
@@ -44,7 +46,7 @@ fn print_entry<K: Sink>(
     index: usize,
     amp: Amp,
 ) -> Result<(), SinkFault>
-    ensures { Prints (K.told out.old) (K.told out.new) (K.faults out.old) (K.faults out.new) result (entry_line label.now qubits index amp) }
+    ensures { Prints K.meaning out.old out.new result (entry_line label.now qubits index amp) }
 {
     let [a, b, c, d] = amp.coefs();
     put_pieces(
@@ -79,7 +81,7 @@ fn print_nonzero<K: Sink>(
     index: usize,
     amp: &Amp,
 ) -> Result<(), SinkFault>
-    ensures { Prints (K.told out.old) (K.told out.new) (K.faults out.old) (K.faults out.new) result (entry_text label.now qubits index amp.now) }
+    ensures { Prints K.meaning out.old out.new result (entry_text label.now qubits index amp.now) }
 {
     if amp.is_zero() {
         return Ok(());
@@ -89,7 +91,7 @@ fn print_nonzero<K: Sink>(
 
 /// A line for each entry that isn't zero.
 fn print_entries<K: Sink>(out: &mut K, label: &[u8], vector: &Vector) -> Result<(), SinkFault>
-    ensures { Prints (K.told out.old) (K.told out.new) (K.faults out.old) (K.faults out.new) result (entries_text label.now vector.now) }
+    ensures { Prints K.meaning out.old out.new result (entries_text label.now vector.now) }
 {
     let qubits = vector.qubits();
     for (index, amp) in vector.amps().iter().enumerate() {
@@ -100,7 +102,7 @@ fn print_entries<K: Sink>(out: &mut K, label: &[u8], vector: &Vector) -> Result<
 
 #[tactic(auto, unfolding(crate::specs::Texts::bits_line))]
 fn print_bits<'a, K: Sink>(out: &mut K, label: &'a [u8], bits: &'a [bool]) -> Result<(), SinkFault>
-    ensures { Prints (K.told out.old) (K.told out.new) (K.faults out.old) (K.faults out.new) result (bits_line label.entry.now bits.entry.now) }
+    ensures { Prints K.meaning out.old out.new result (bits_line label.entry.now bits.entry.now) }
 {
     put_pieces(
         out,
@@ -110,7 +112,8 @@ fn print_bits<'a, K: Sink>(out: &mut K, label: &'a [u8], bits: &'a [bool]) -> Re
 
 #[tactic(auto, unfolding(crate::specs::Texts::state_text))]
 fn print_start<K: Sink>(out: &mut K, refutation: &Refutation) -> Result<(), SinkFault>
-    ensures { Prints (K.told out.old) (K.told out.new) (K.faults out.old) (K.faults out.new) result (state_text (codes "  bits ") (codes "  state ") refutation.now.bits refutation.now.state) }
+    ensures { Prints K.meaning out.old out.new result
+        (state_text (codes "  bits ") (codes "  state ") refutation.now.bits refutation.now.state) }
 {
     print_bits(out, b"  bits ", refutation.bits.as_slice())?;
     print_entries(out, b"  state ", &refutation.state)
@@ -118,7 +121,8 @@ fn print_start<K: Sink>(out: &mut K, refutation: &Refutation) -> Result<(), Sink
 
 #[tactic(auto, unfolding(crate::specs::Texts::state_text))]
 fn print_end<K: Sink>(out: &mut K, refutation: &Refutation) -> Result<(), SinkFault>
-    ensures { Prints (K.told out.old) (K.told out.new) (K.faults out.old) (K.faults out.new) result (state_text (codes "  end bits ") (codes "  end ") refutation.now.end_bits refutation.now.end) }
+    ensures { Prints K.meaning out.old out.new result
+        (state_text (codes "  end bits ") (codes "  end ") refutation.now.end_bits refutation.now.end) }
 {
     print_bits(out, b"  end bits ", refutation.end_bits.as_slice())?;
     print_entries(out, b"  end ", &refutation.end)
@@ -126,7 +130,7 @@ fn print_end<K: Sink>(out: &mut K, refutation: &Refutation) -> Result<(), SinkFa
 
 #[tactic(auto, unfolding(crate::specs::Texts::ending_text))]
 fn print_ending<K: Sink>(out: &mut K, refutation: &Refutation) -> Result<(), SinkFault>
-    ensures { Prints (K.told out.old) (K.told out.new) (K.faults out.old) (K.faults out.new) result (ending_text refutation.now) }
+    ensures { Prints K.meaning out.old out.new result (ending_text refutation.now) }
 {
     print_bits(out, b"  outcomes ", refutation.outcomes.as_slice())?;
     print_end(out, refutation)
@@ -134,7 +138,7 @@ fn print_ending<K: Sink>(out: &mut K, refutation: &Refutation) -> Result<(), Sin
 
 #[tactic(auto, unfolding(crate::specs::Texts::refutation_text))]
 fn print_refutation<K: Sink>(out: &mut K, refutation: &Refutation) -> Result<(), SinkFault>
-    ensures { Prints (K.told out.old) (K.told out.new) (K.faults out.old) (K.faults out.new) result (refutation_text refutation.now) }
+    ensures { Prints K.meaning out.old out.new result (refutation_text refutation.now) }
 {
     print_start(out, refutation)?;
     print_ending(out, refutation)
@@ -142,20 +146,20 @@ fn print_refutation<K: Sink>(out: &mut K, refutation: &Refutation) -> Result<(),
 
 #[tactic(auto, unfolding(crate::specs::Texts::refuted_line))]
 fn print_refuted_line<K: Sink>(out: &mut K) -> Result<(), SinkFault>
-    ensures { Prints (K.told out.old) (K.told out.new) (K.faults out.old) (K.faults out.new) result refuted_line }
+    ensures { Prints K.meaning out.old out.new result refuted_line }
 {
     put_text(out, b"refuted\n")
 }
 
 fn print_refuted<K: Sink>(out: &mut K, refutation: &Refutation) -> Result<(), SinkFault>
-    ensures { Prints (K.told out.old) (K.told out.new) (K.faults out.old) (K.faults out.new) result (refuted_line ++ refutation_text refutation.now) }
+    ensures { Prints K.meaning out.old out.new result (refuted_line ++ refutation_text refutation.now) }
 {
     print_refuted_line(out)?;
     print_refutation(out, refutation)
 }
 
 fn print_gave_up<K: Sink>(out: &mut K, why: Why) -> Result<(), SinkFault>
-    ensures { Prints (K.told out.old) (K.told out.new) (K.faults out.old) (K.faults out.new) result (codes "gave up " ++ (why_text why ++ newline)) }
+    ensures { Prints K.meaning out.old out.new result (codes "gave up " ++ (why_text why ++ newline)) }
 {
     match why {
         Why::Width => put_text(out, b"gave up width\n"),
@@ -165,7 +169,7 @@ fn print_gave_up<K: Sink>(out: &mut K, why: Why) -> Result<(), SinkFault>
 }
 
 fn print_outcome<K: Sink>(out: &mut K, verdict: &Verdict) -> Result<(), SinkFault>
-    ensures { Prints (K.told out.old) (K.told out.new) (K.faults out.old) (K.faults out.new) result (outcome_text verdict.now) }
+    ensures { Prints K.meaning out.old out.new result (outcome_text verdict.now) }
 {
     match verdict {
         Verdict::Verified => put_text(out, b"verified\n"),
@@ -191,7 +195,7 @@ pub fn print_verdict<K: Sink>(
     line: u32,
     verdict: &Verdict,
 ) -> Result<(), SinkFault>
-    ensures { Prints (K.told out.old) (K.told out.new) (K.faults out.old) (K.faults out.new) result (verdict_text number kind line verdict.now) }
+    ensures { Prints K.meaning out.old out.new result (verdict_text number kind line verdict.now) }
 {
     print_head(out, number, kind, line)?;
     print_outcome(out, verdict)
@@ -206,7 +210,7 @@ pub fn print_summary<K: Sink>(
     refuted: u32,
     gave_up: u32,
 ) -> Result<(), SinkFault>
-    ensures { Prints (K.told out.old) (K.told out.new) (K.faults out.old) (K.faults out.new) result (summary_text verified refuted gave_up) }
+    ensures { Prints K.meaning out.old out.new result (summary_text verified refuted gave_up) }
 {
     put_pieces(
         out,

@@ -1,9 +1,10 @@
 -- How a run ends: what is written in the end, and why.
 use Rattle.std.specs.Prelude.{◌≡◌, ℕ, ◌<◌, ◌≤◌, true, false, List, [], ◌∷◌, length, Option, Some, None, IfSome, Err, ◌⊎◌}
 use Rattle.aq_base.specs.Limits.{most_program_bytes, most_sets_bytes, most_steps}
-use Rattle.aq_world.specs.Causes.{Rose, Blame}
+use Rattle.aq_world.specs.Causes.{Rose}
 use Rattle.aq_world.specs.Held.{Held, bytes_at}
 use Rattle.aq_world.specs.Prints.{IsPrefixOf}
+use Rattle.aq_world.specs.Shelves.{ShelfMeaning}
 use Rattle.aq_obligations.specs.declared.kind.Kind.TheVariants as kind
 use Rattle.aq_report.specs.declared.verdict.Verdict.{Verdict}
 use Rattle.aq_report.specs.declared.verdict.Verdict.TheVariants as verdict
@@ -37,8 +38,9 @@ abbrev pub IsLonger : Option Held → List ℕ → ℕ → Type 0
 IsLonger told name most = IfSome told (λ held. most < length (bytes_at held name))
 
 -- the shelf's count rose in a read of this name
-abbrev pub ReadFailedOf : ℕ → ℕ → Blame → List ℕ → Type 0
-ReadFailedOf before now blame name = Rose before now × (blame ≡ record { name = name; keep = false })
+abbrev pub ReadFailedOf : {S : Type 0} → ShelfMeaning S → S → S → List ℕ → Type 0
+ReadFailedOf shelf old new name =
+    Rose (shelf.faults old) (shelf.faults new) × (shelf.blame new ≡ record { name = name; keep = false })
 
 -- the program's file was read, and says this program
 pub record ReadsProgram (told : Option Held) (name : List ℕ) (program : Program) : Type 0 where

@@ -1,4 +1,4 @@
-ghost use Rattle.std.specs.Prelude.{◌≡◌, ◌≢◌, [], false, None, Some, map};
+ghost use Rattle.std.specs.Prelude.{◌≡◌, ◌≢◌, None, Some, map};
 ghost use Rattle.std.specs.String.{string_bytes};
 ghost use Rattle.aq_world.specs.Causes.{Rose};
 ghost use Rattle.aq_world.specs.Files.{first_of};
@@ -8,7 +8,7 @@ ghost use Rattle.aq_top.specs.Words.{check_words};
 
 use crate::status::Status;
 use crate::top::run;
-use aq_world::{HonestShelf, HonestSink};
+use aq_world::{HonestShelf, HonestSink, Shelf};
 use std::alloc::Global;
 
 /// A run over files and a sink in memory of which no call fails: neither `Read` nor `Write` comes, and what is said of
@@ -21,10 +21,15 @@ pub fn run_honest(
 ) -> Status
     ensures no_read { result ≢ Status.Read }
     ensures no_write { result ≢ Status.Write }
-    ensures report_is_justified { IsAnswer result → Reports (Some (first_of shelf.old.files)) (check_words (map string_bytes words.now)) (Some out.old.bytes) (Some out.new.bytes) result }
-    ensures all_verified_implies_correct { result ≡ Status.Good → ToldIsCorrect (Some (first_of shelf.old.files)) (check_words (map string_bytes words.now)) }
+    ensures report_is_justified { IsAnswer result
+        → Reports (Some (first_of shelf.old.files)) (check_words (map string_bytes words.now)) (Some out.old.bytes)
+        (Some out.new.bytes) result }
+    ensures all_verified_implies_correct { result ≡ Status.Good
+        → ToldIsCorrect (Some (first_of shelf.old.files)) (check_words (map string_bytes words.now)) }
     // The counts of faults stay 0, so that no end has a failed read or write for its cause.
-    ensures other_ends { Ends (Some (first_of shelf.old.files)) (ReadFailedOf 0 0 (record { name = []; keep = false })) (Rose 0 0) (check_words (map string_bytes words.now)) (Some out.old.bytes) (Some out.new.bytes) result }
+    ensures other_ends { Ends (Some (first_of shelf.old.files))
+        (ReadFailedOf ⟦<HonestShelf as Shelf>⟧.meaning shelf.old shelf.new) (Rose 0 0)
+        (check_words (map string_bytes words.now)) (Some out.old.bytes) (Some out.new.bytes) result }
     ensures usage_has_its_cause { result ≡ Status.Usage → check_words (map string_bytes words.now) ≡ None }
     ensures shelf_stays { first_of shelf.new.files ≡ first_of shelf.old.files }
 {

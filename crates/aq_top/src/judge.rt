@@ -21,7 +21,8 @@ pub(crate) fn judge(alloc: Global, loaded: &Loaded) -> Verdict
     requires sets { IsValidSets loaded.now.sets }
     requires before { All (IsBoundCase loaded.now.program loaded.now.sets) loaded.now.claims.before }
     requires after { All (IsBoundCase loaded.now.program loaded.now.sets) loaded.now.claims.after }
-    ensures { IsJustified most_steps (enough_for (task_of loaded.now.program loaded.now.sets loaded.now.claims)) (obligation_of (task_of loaded.now.program loaded.now.sets loaded.now.claims)) result }
+    ensures { IsJustified most_steps (enough_for (task_of loaded.now.program loaded.now.sets loaded.now.claims))
+        (obligation_of (task_of loaded.now.program loaded.now.sets loaded.now.claims)) result }
 {
     aq_judge::judge(
         alloc,

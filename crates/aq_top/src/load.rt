@@ -3,7 +3,8 @@ ghost use Rattle.aq_prog.specs.Programs.{IsValidProgram};
 ghost use Rattle.aq_sets.specs.Valid.{IsValidSets};
 ghost use Rattle.aq_judge.specs.Bodies.{are_gates};
 ghost use Rattle.aq_obligations.specs.Bound.{IsBoundCase};
-ghost use Rattle.aq_top.specs.Ends.{ReadFailedOf, ReadsProgram, ReadsSets, ReadsTask, HasCause, ProgramCause, SetsCause, ClaimFaultOf};
+ghost use Rattle.aq_top.specs.Ends.{ReadFailedOf, ReadsProgram, ReadsSets, ReadsTask, HasCause, ProgramCause,
+    SetsCause, ClaimFaultOf};
 ghost use Rattle.aq_top.specs.Tasks.{claims_asked, task_of};
 ghost use Rattle.aq_top.specs.Words.{files};
 
@@ -50,12 +51,13 @@ pub(crate) fn load_program<S: Shelf>(
     name: &str,
     shelf: &mut S,
 ) -> Result<Program, Stop>
-    ensures read { IfOk result (ReadsProgram (S.holds shelf.old) name.now) }
+    ensures read { IfOk result (ReadsProgram (S.meaning.holds shelf.old) name.now) }
     ensures gates { IfOk result (λ p. are_gates p.body ≡ true) }
     ensures valid { IfOk result IsValidProgram }
-    ensures cause { IfErr result (ProgramCause (S.holds shelf.old) (ReadFailedOf (S.faults shelf.old) (S.faults shelf.new) (S.blame shelf.new)) name.now) }
-    ensures later { S.faults shelf.old ≤ S.faults shelf.new }
-    ensures held { S.holds shelf.new ≡ S.holds shelf.old }
+    ensures cause { IfErr result
+        (ProgramCause (S.meaning.holds shelf.old) (ReadFailedOf S.meaning shelf.old shelf.new) name.now) }
+    ensures later { S.meaning.faults shelf.old ≤ S.meaning.faults shelf.new }
+    ensures held { S.meaning.holds shelf.new ≡ S.meaning.holds shelf.old }
 {
     match shelf.read(name, MOST_PROGRAM) {
         Ok(bytes) => match read_program(alloc, bytes.as_slice()) {
@@ -76,11 +78,12 @@ pub(crate) fn load_program<S: Shelf>(
 
 /// Reads the sets.
 pub(crate) fn load_sets<S: Shelf>(alloc: Global, name: &str, shelf: &mut S) -> Result<Sets, Stop>
-    ensures read { IfOk result (ReadsSets (S.holds shelf.old) name.now) }
+    ensures read { IfOk result (ReadsSets (S.meaning.holds shelf.old) name.now) }
     ensures valid { IfOk result IsValidSets }
-    ensures cause { IfErr result (SetsCause (S.holds shelf.old) (ReadFailedOf (S.faults shelf.old) (S.faults shelf.new) (S.blame shelf.new)) name.now) }
-    ensures later { S.faults shelf.old ≤ S.faults shelf.new }
-    ensures held { S.holds shelf.new ≡ S.holds shelf.old }
+    ensures cause { IfErr result
+        (SetsCause (S.meaning.holds shelf.old) (ReadFailedOf S.meaning shelf.old shelf.new) name.now) }
+    ensures later { S.meaning.faults shelf.old ≤ S.meaning.faults shelf.new }
+    ensures held { S.meaning.holds shelf.new ≡ S.meaning.holds shelf.old }
 {
     match shelf.read(name, MOST_SETS) {
         Ok(bytes) => match read_sets(alloc, bytes.as_slice()) {
@@ -120,14 +123,17 @@ pub(crate) fn load<S: Shelf>(
     sets: &str,
     shelf: &mut S,
 ) -> Result<Loaded, Stop>
-    ensures read { IfOk result (λ l. ReadsTask (S.holds shelf.old) (files program.now sets.now) (task_of l.program l.sets l.claims)) }
+    ensures read { IfOk result
+        (λ l. ReadsTask (S.meaning.holds shelf.old) (files program.now sets.now) (task_of l.program l.sets l.claims)) }
     ensures gates { IfOk result (λ l. are_gates l.program.body ≡ true) }
     ensures program { IfOk result (λ l. IsValidProgram l.program) }
     ensures sets { IfOk result (λ l. IsValidSets l.sets) }
     ensures before { IfOk result (λ l. All (IsBoundCase l.program l.sets) l.claims.before) }
     ensures after { IfOk result (λ l. All (IsBoundCase l.program l.sets) l.claims.after) }
-    ensures cause { IfErr result (HasCause (S.holds shelf.old) (ReadFailedOf (S.faults shelf.old) (S.faults shelf.new) (S.blame shelf.new)) (files program.now sets.now)) }
-    ensures held { S.holds shelf.new ≡ S.holds shelf.old }
+    ensures cause { IfErr result
+        (HasCause (S.meaning.holds shelf.old) (ReadFailedOf S.meaning shelf.old shelf.new)
+        (files program.now sets.now)) }
+    ensures held { S.meaning.holds shelf.new ≡ S.meaning.holds shelf.old }
 {
     match load_program(alloc, program, shelf) {
         Ok(program) => match load_sets(alloc, sets, shelf) {

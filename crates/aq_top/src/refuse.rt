@@ -1,7 +1,8 @@
 //! The lines of a program's faults.
 ghost use Rattle.std.specs.Prelude.{◌≡◌, ◌++◌};
 ghost use Rattle.aq_world.specs.Prints.{Prints};
-ghost use Rattle.aq_top.specs.Faults.{program_line, lex_line, parse_line, elab_line, fault_line, is_lex_memory, is_parse_memory, is_elab_memory, is_memory, refused_or_memory, fault_status};
+ghost use Rattle.aq_top.specs.Faults.{program_line, lex_line, parse_line, elab_line, fault_line, is_lex_memory,
+    is_parse_memory, is_elab_memory, is_memory, refused_or_memory, fault_status};
 ghost use Rattle.aq_top.specs.Lines.{memory_line};
 
 use crate::program::ProgramFault;
@@ -13,7 +14,7 @@ use aq_world::{Piece, Sink, SinkFault, put_pieces, put_text};
 
 #[tactic(auto, unfolding(crate::specs::Lines::memory_line))]
 pub(crate) fn print_memory<K: Sink>(out: &mut K) -> Result<(), SinkFault>
-    ensures { Prints (K.told out.old) (K.told out.new) (K.faults out.old) (K.faults out.new) result memory_line }
+    ensures { Prints K.meaning out.old out.new result memory_line }
 {
     put_text(out, b"out of memory\n")
 }
@@ -26,7 +27,7 @@ fn print_told<'a, K: Sink>(
     name: &'a [u8],
     word: &'a [u8],
 ) -> Result<(), SinkFault>
-    ensures { Prints (K.told out.old) (K.told out.new) (K.faults out.old) (K.faults out.new) result (program_line at (name.entry.now ++ word.entry.now)) }
+    ensures { Prints K.meaning out.old out.new result (program_line at (name.entry.now ++ word.entry.now)) }
 {
     put_pieces(
         out,
@@ -45,14 +46,14 @@ fn print_told<'a, K: Sink>(
 
 /// The line of the fault with this name.
 fn print_named<K: Sink>(out: &mut K, at: Place, name: &[u8]) -> Result<(), SinkFault>
-    ensures { Prints (K.told out.old) (K.told out.new) (K.faults out.old) (K.faults out.new) result (program_line at name.now) }
+    ensures { Prints K.meaning out.old out.new result (program_line at name.now) }
 {
     print_told(out, at, name, b"")
 }
 
 #[tactic(auto, unfolding(crate::specs::Faults::lex_line))]
 fn print_lex<K: Sink>(out: &mut K, fault: LexFault) -> Result<(), SinkFault>
-    ensures { Prints (K.told out.old) (K.told out.new) (K.faults out.old) (K.faults out.new) result (lex_line fault) }
+    ensures { Prints K.meaning out.old out.new result (lex_line fault) }
 {
     match fault {
         LexFault::NotUtf8 { at } => print_named(out, at, b"NotUtf8"),
@@ -66,7 +67,7 @@ fn print_lex<K: Sink>(out: &mut K, fault: LexFault) -> Result<(), SinkFault>
 
 #[tactic(auto, unfolding(crate::specs::Faults::parse_line))]
 fn print_parse<K: Sink>(out: &mut K, fault: &ParseFault) -> Result<(), SinkFault>
-    ensures { Prints (K.told out.old) (K.told out.new) (K.faults out.old) (K.faults out.new) result (parse_line fault.now) }
+    ensures { Prints K.meaning out.old out.new result (parse_line fault.now) }
 {
     match fault {
         ParseFault::Unexpected { at, .. } => print_named(out, *at, b"Unexpected"),
@@ -78,7 +79,7 @@ fn print_parse<K: Sink>(out: &mut K, fault: &ParseFault) -> Result<(), SinkFault
 
 #[tactic(auto, unfolding(crate::specs::Faults::elab_line))]
 fn print_elab<K: Sink>(out: &mut K, fault: ElabFault) -> Result<(), SinkFault>
-    ensures { Prints (K.told out.old) (K.told out.new) (K.faults out.old) (K.faults out.new) result (elab_line fault) }
+    ensures { Prints K.meaning out.old out.new result (elab_line fault) }
 {
     match fault {
         ElabFault::UnknownName { at } => print_named(out, at, b"UnknownName"),
@@ -106,7 +107,7 @@ pub(crate) fn print_program_fault<K: Sink>(
     out: &mut K,
     fault: &ProgramFault,
 ) -> Result<(), SinkFault>
-    ensures { Prints (K.told out.old) (K.told out.new) (K.faults out.old) (K.faults out.new) result (fault_line fault.now) }
+    ensures { Prints K.meaning out.old out.new result (fault_line fault.now) }
 {
     match fault {
         ProgramFault::Lex(fault) => print_lex(out, *fault),

@@ -1,7 +1,8 @@
 //! The lines of a set file's faults, and of the faults of its claims.
 ghost use Rattle.std.specs.Prelude.{◌≡◌};
 ghost use Rattle.aq_world.specs.Prints.{Prints};
-ghost use Rattle.aq_top.specs.SetFaults.{sets_line, set_fault_line, is_set_memory, set_fault_status, claim_line, claim_fault_line, is_claim_memory, claim_fault_status};
+ghost use Rattle.aq_top.specs.SetFaults.{sets_line, set_fault_line, is_set_memory, set_fault_status, claim_line,
+    claim_fault_line, is_claim_memory, claim_fault_status};
 
 use crate::refuse::{print_memory, refused_or_memory};
 use crate::status::Status;
@@ -13,7 +14,7 @@ use aq_world::{Piece, Sink, SinkFault, put_pieces};
 /// The line of the fault with this name.
 #[tactic(auto, unfolding(crate::specs::SetFaults::sets_line))]
 fn print_placed<K: Sink>(out: &mut K, at: Place, name: &[u8]) -> Result<(), SinkFault>
-    ensures { Prints (K.told out.old) (K.told out.new) (K.faults out.old) (K.faults out.new) result (sets_line at name.now) }
+    ensures { Prints K.meaning out.old out.new result (sets_line at name.now) }
 {
     put_pieces(
         out,
@@ -32,7 +33,7 @@ fn print_placed<K: Sink>(out: &mut K, at: Place, name: &[u8]) -> Result<(), Sink
 /// The line of a set file's first fault, or that of want of memory.
 #[tactic(auto, unfolding(crate::specs::SetFaults::set_fault_line))]
 pub(crate) fn print_set_fault<K: Sink>(out: &mut K, fault: &SetFault) -> Result<(), SinkFault>
-    ensures { Prints (K.told out.old) (K.told out.new) (K.faults out.old) (K.faults out.new) result (set_fault_line fault.now) }
+    ensures { Prints K.meaning out.old out.new result (set_fault_line fault.now) }
 {
     match fault {
         SetFault::NotUtf8 { at } => print_placed(out, *at, b"NotUtf8"),
@@ -70,7 +71,7 @@ pub(crate) fn set_fault_status(fault: &SetFault) -> Status
 /// The line of the fault with this name, of the claim with that name.
 #[tactic(auto, unfolding(crate::specs::SetFaults::claim_line))]
 fn print_claimed<'a, K: Sink>(out: &mut K, claim: &'a [u8], name: &'a [u8]) -> Result<(), SinkFault>
-    ensures { Prints (K.told out.old) (K.told out.new) (K.faults out.old) (K.faults out.new) result (claim_line claim.entry.now name.entry.now) }
+    ensures { Prints K.meaning out.old out.new result (claim_line claim.entry.now name.entry.now) }
 {
     put_pieces(
         out,
@@ -87,7 +88,7 @@ fn print_claimed<'a, K: Sink>(out: &mut K, claim: &'a [u8], name: &'a [u8]) -> R
 /// The line of a claim's fault, or that of want of memory.
 #[tactic(auto, unfolding(crate::specs::SetFaults::claim_fault_line))]
 pub(crate) fn print_claim_fault<K: Sink>(out: &mut K, fault: &ClaimFault) -> Result<(), SinkFault>
-    ensures { Prints (K.told out.old) (K.told out.new) (K.faults out.old) (K.faults out.new) result (claim_fault_line fault.now) }
+    ensures { Prints K.meaning out.old out.new result (claim_fault_line fault.now) }
 {
     match fault {
         ClaimFault::UnknownClaim { name } => print_claimed(out, name.as_slice(), b"UnknownClaim"),

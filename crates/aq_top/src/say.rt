@@ -33,21 +33,22 @@ fn status_after(printed: Result<(), SinkFault>, wanted: Status) -> Status
 
 #[tactic(auto, unfolding(crate::specs::Lines::usage_text))]
 fn print_usage<K: Sink>(out: &mut K) -> Result<(), SinkFault>
-    ensures { Prints (K.told out.old) (K.told out.new) (K.faults out.old) (K.faults out.new) result usage_text }
+    ensures { Prints K.meaning out.old out.new result usage_text }
 {
     put_text(out, USAGE)
 }
 
 /// Says how the program is used.
 pub(crate) fn say_usage<K: Sink>(out: &mut K) -> Status
-    ensures said { (written : List ℕ) × Appends (K.told out.old) (K.told out.new) written × Said (Rose (K.faults out.old) (K.faults out.new)) Status.Usage usage_text result written }
+    ensures said { (written : List ℕ) × Appends (K.meaning.told out.old) (K.meaning.told out.new) written
+        × Said (Rose (K.meaning.faults out.old) (K.meaning.faults out.new)) Status.Usage usage_text result written }
 {
     status_after(print_usage(out), Status::Usage)
 }
 
 #[tactic(auto, unfolding(crate::specs::Lines::read_fault_line))]
 fn print_fault_of<K: Sink>(out: &mut K, name: &[u8]) -> Result<(), SinkFault>
-    ensures { Prints (K.told out.old) (K.told out.new) (K.faults out.old) (K.faults out.new) result (read_fault_line name.now) }
+    ensures { Prints K.meaning out.old out.new result (read_fault_line name.now) }
 {
     put_pieces(
         out,
@@ -60,34 +61,34 @@ fn print_fault_of<K: Sink>(out: &mut K, name: &[u8]) -> Result<(), SinkFault>
 }
 
 fn print_read_fault<K: Sink>(out: &mut K, name: &str) -> Result<(), SinkFault>
-    ensures { Prints (K.told out.old) (K.told out.new) (K.faults out.old) (K.faults out.new) result (read_fault_line name.now) }
+    ensures { Prints K.meaning out.old out.new result (read_fault_line name.now) }
 {
     print_fault_of(out, name.as_bytes())
 }
 
 #[tactic(auto, unfolding(crate::specs::Lines::program_too_long))]
 fn print_program_too_long<K: Sink>(out: &mut K) -> Result<(), SinkFault>
-    ensures { Prints (K.told out.old) (K.told out.new) (K.faults out.old) (K.faults out.new) result program_too_long }
+    ensures { Prints K.meaning out.old out.new result program_too_long }
 {
     put_text(out, b"refused: program: TooLong\n")
 }
 
 #[tactic(auto, unfolding(crate::specs::Lines::program_unbuilt))]
 fn print_program_unbuilt<K: Sink>(out: &mut K) -> Result<(), SinkFault>
-    ensures { Prints (K.told out.old) (K.told out.new) (K.faults out.old) (K.faults out.new) result program_unbuilt }
+    ensures { Prints K.meaning out.old out.new result program_unbuilt }
 {
     put_text(out, b"refused: program: Unbuilt\n")
 }
 
 #[tactic(auto, unfolding(crate::specs::Lines::sets_too_long))]
 fn print_sets_too_long<K: Sink>(out: &mut K) -> Result<(), SinkFault>
-    ensures { Prints (K.told out.old) (K.told out.new) (K.faults out.old) (K.faults out.new) result sets_too_long }
+    ensures { Prints K.meaning out.old out.new result sets_too_long }
 {
     put_text(out, b"refused: sets: TooLong\n")
 }
 
 fn print_stop<K: Sink>(out: &mut K, program: &str, sets: &str, stop: &Stop) -> Result<(), SinkFault>
-    ensures { Prints (K.told out.old) (K.told out.new) (K.faults out.old) (K.faults out.new) result (stop_text (files program.now sets.now) stop.now) }
+    ensures { Prints K.meaning out.old out.new result (stop_text (files program.now sets.now) stop.now) }
 {
     match stop {
         Stop::ProgramUnread => print_read_fault(out, program),
@@ -117,7 +118,9 @@ fn stop_status(stop: &Stop) -> Status
 
 /// Says why a check stops before it judges.
 pub(crate) fn say_stop<K: Sink>(out: &mut K, program: &str, sets: &str, stop: &Stop) -> Status
-    ensures said { (written : List ℕ) × Appends (K.told out.old) (K.told out.new) written × Said (Rose (K.faults out.old) (K.faults out.new)) (stop_status stop.now) (stop_text (files program.now sets.now) stop.now) result written }
+    ensures said { (written : List ℕ) × Appends (K.meaning.told out.old) (K.meaning.told out.new) written
+        × Said (Rose (K.meaning.faults out.old) (K.meaning.faults out.new)) (stop_status stop.now)
+        (stop_text (files program.now sets.now) stop.now) result written }
 {
     status_after(print_stop(out, program, sets, stop), stop_status(stop))
 }
@@ -136,7 +139,7 @@ ghost use Rattle.std.specs.Prelude.{◌∷◌, [], count_by};
 ghost use Rattle.aq_report.specs.Texts.{summary_text, verdict_text, is_verified, is_refuted, is_given_up};
 
 fn print_counts<K: Sink>(out: &mut K, verdict: &Verdict) -> Result<(), SinkFault>
-    ensures { Prints (K.told out.old) (K.told out.new) (K.faults out.old) (K.faults out.new) result
+    ensures { Prints K.meaning out.old out.new result
         (summary_text (count_by is_verified (verdict.now ∷ [])) (count_by is_refuted (verdict.now ∷ [])) (count_by is_given_up (verdict.now ∷ []))) }
 {
     match verdict {
@@ -147,7 +150,7 @@ fn print_counts<K: Sink>(out: &mut K, verdict: &Verdict) -> Result<(), SinkFault
 }
 
 fn print_report<K: Sink>(out: &mut K, verdict: &Verdict) -> Result<(), SinkFault>
-    ensures { Prints (K.told out.old) (K.told out.new) (K.faults out.old) (K.faults out.new) result (post_report verdict.now) }
+    ensures { Prints K.meaning out.old out.new result (post_report verdict.now) }
 {
     print_verdict(out, 1, Kind::Post, 0, verdict)?;
     print_counts(out, verdict)
@@ -155,7 +158,9 @@ fn print_report<K: Sink>(out: &mut K, verdict: &Verdict) -> Result<(), SinkFault
 
 /// Says the report of one verdict.
 pub(crate) fn say_report<K: Sink>(out: &mut K, verdict: &Verdict) -> Status
-    ensures said { (written : List ℕ) × Appends (K.told out.old) (K.told out.new) written × Said (Rose (K.faults out.old) (K.faults out.new)) (verdict_status verdict.now) (post_report verdict.now) result written }
+    ensures said { (written : List ℕ) × Appends (K.meaning.told out.old) (K.meaning.told out.new) written
+        × Said (Rose (K.meaning.faults out.old) (K.meaning.faults out.new)) (verdict_status verdict.now)
+        (post_report verdict.now) result written }
 {
     status_after(print_report(out, verdict), verdict_status(verdict))
 }

@@ -37,8 +37,10 @@ fn check<S: Shelf, K: Sink>(
     shelf: &mut S,
     out: &mut K,
 ) -> Status
-    ensures ends { Ends (S.holds shelf.old) (ReadFailedOf (S.faults shelf.old) (S.faults shelf.new) (S.blame shelf.new)) (Rose (K.faults out.old) (K.faults out.new)) (Some (files program.now sets.now)) (K.told out.old) (K.told out.new) result }
-    ensures held { S.holds shelf.new ≡ S.holds shelf.old }
+    ensures ends { Ends (S.meaning.holds shelf.old) (ReadFailedOf S.meaning shelf.old shelf.new)
+        (Rose (K.meaning.faults out.old) (K.meaning.faults out.new)) (Some (files program.now sets.now))
+        (K.meaning.told out.old) (K.meaning.told out.new) result }
+    ensures held { S.meaning.holds shelf.new ≡ S.meaning.holds shelf.old }
 {
     match load(alloc, program, sets, shelf) {
         Ok(loaded) => {
@@ -51,8 +53,10 @@ fn check<S: Shelf, K: Sink>(
 
 /// Does what the words say, or says how the program is used.
 fn obey<S: Shelf, K: Sink>(alloc: Global, words: &[String], shelf: &mut S, out: &mut K) -> Status
-    ensures ends { Ends (S.holds shelf.old) (ReadFailedOf (S.faults shelf.old) (S.faults shelf.new) (S.blame shelf.new)) (Rose (K.faults out.old) (K.faults out.new)) (check_words (map string_bytes words.now)) (K.told out.old) (K.told out.new) result }
-    ensures held { S.holds shelf.new ≡ S.holds shelf.old }
+    ensures ends { Ends (S.meaning.holds shelf.old) (ReadFailedOf S.meaning shelf.old shelf.new)
+        (Rose (K.meaning.faults out.old) (K.meaning.faults out.new)) (check_words (map string_bytes words.now))
+        (K.meaning.told out.old) (K.meaning.told out.new) result }
+    ensures held { S.meaning.holds shelf.new ≡ S.meaning.holds shelf.old }
 {
     match files_named(words) {
         Some((program, sets)) => check(alloc, program, sets, shelf, out),
@@ -67,20 +71,26 @@ fn obey<S: Shelf, K: Sink>(alloc: Global, words: &[String], shelf: &mut S, out: 
 /// is given up.
 pub fn run<S: Shelf, K: Sink>(alloc: Global, words: &[String], shelf: &mut S, out: &mut K) -> Status
     // With Good, Refuted and GaveUp, a whole report was written, and its verdicts are justified.
-    ensures report_is_justified { IsAnswer result → Reports (S.holds shelf.old) (check_words (map string_bytes words.now)) (K.told out.old) (K.told out.new) result }
+    ensures report_is_justified { IsAnswer result
+        → Reports (S.meaning.holds shelf.old) (check_words (map string_bytes words.now)) (K.meaning.told out.old)
+        (K.meaning.told out.new) result }
 
     // With Good, the program that the files say is correct.
-    ensures all_verified_implies_correct { result ≡ Status.Good → ToldIsCorrect (S.holds shelf.old) (check_words (map string_bytes words.now)) }
+    ensures all_verified_implies_correct { result ≡ Status.Good
+        → ToldIsCorrect (S.meaning.holds shelf.old) (check_words (map string_bytes words.now)) }
 
     // Whatever the status, what was written is a whole output that goes with it, or a front of one after a failed write or
     // where the sink wanted memory.
-    ensures other_ends { Ends (S.holds shelf.old) (ReadFailedOf (S.faults shelf.old) (S.faults shelf.new) (S.blame shelf.new)) (Rose (K.faults out.old) (K.faults out.new)) (check_words (map string_bytes words.now)) (K.told out.old) (K.told out.new) result }
+    ensures other_ends { Ends (S.meaning.holds shelf.old) (ReadFailedOf S.meaning shelf.old shelf.new)
+        (Rose (K.meaning.faults out.old) (K.meaning.faults out.new)) (check_words (map string_bytes words.now))
+        (K.meaning.told out.old) (K.meaning.told out.new) result }
     ensures usage_has_its_cause { result ≡ Status.Usage → check_words (map string_bytes words.now) ≡ None }
-    ensures read_has_its_cause { result ≡ Status.Read → ReadsFailed (ReadFailedOf (S.faults shelf.old) (S.faults shelf.new) (S.blame shelf.new)) (check_words (map string_bytes words.now)) }
-    ensures write_has_its_cause { result ≡ Status.Write → Rose (K.faults out.old) (K.faults out.new) }
+    ensures read_has_its_cause { result ≡ Status.Read
+        → ReadsFailed (ReadFailedOf S.meaning shelf.old shelf.new) (check_words (map string_bytes words.now)) }
+    ensures write_has_its_cause { result ≡ Status.Write → Rose (K.meaning.faults out.old) (K.meaning.faults out.new) }
 
     // No file changes.
-    ensures shelf_stays { S.holds shelf.new ≡ S.holds shelf.old }
+    ensures shelf_stays { S.meaning.holds shelf.new ≡ S.meaning.holds shelf.old }
 {
     obey(alloc, words, shelf, out)
 }

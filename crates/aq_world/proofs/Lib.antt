@@ -1,3 +1,4 @@
 mod FilesLemmas
 mod LinesLemmas
 pub mod PrintsLemmas
+mod ReadersLemmas

@@ -1,7 +1,12 @@
 pub mod Causes
 pub mod Files
 pub mod Held
+pub mod Honest
 pub mod Lines
+pub mod Memory
 pub mod Pieces
 pub mod Prints
+pub mod Readers
 pub mod Shelves
+pub mod Sinks
+pub mod Writers

@@ -9,6 +9,7 @@ mod line;
 mod memory;
 mod out_sink;
 mod pieces;
+mod reading;
 mod shelf;
 mod sink;
 #[cfg(test)]
@@ -18,6 +19,6 @@ pub use file_shelf::FileShelf;
 pub use honest::{HonestShelf, HonestSink, Named};
 pub use memory::{MemoryShelf, MemorySink};
 pub use out_sink::OutSink;
-pub use pieces::{Piece, put_number, put_pieces};
+pub use pieces::{Piece, put_pieces};
 pub use shelf::{KeepFault, ReadFault, Shelf};
 pub use sink::{Sink, SinkFault, put_text};

@@ -16,7 +16,7 @@ pub(crate) type Line = ArrayVec<u8, 256>;
 
 /// Puts what a full line holds.
 fn make_room<K: Sink>(out: &mut K, line: &mut Line) -> Result<(), SinkFault>
-    ensures adds { Adds (K.told out.old) (K.told out.new) (K.faults out.old) (K.faults out.new) line.old.items line.new.items result [] }
+    ensures adds { Adds K.meaning out.old out.new line.old.items line.new.items result [] }
     ensures room { OnOk result (array_vec_len line.new < 256) }
 {
     if line.is_full() {
@@ -27,7 +27,7 @@ fn make_room<K: Sink>(out: &mut K, line: &mut Line) -> Result<(), SinkFault>
 }
 
 fn add_byte<K: Sink>(out: &mut K, line: &mut Line, byte: u8) -> Result<(), SinkFault>
-    ensures { Adds (K.told out.old) (K.told out.new) (K.faults out.old) (K.faults out.new) line.old.items line.new.items result (byte ∷ []) }
+    ensures { Adds K.meaning out.old out.new line.old.items line.new.items result (byte ∷ []) }
 {
     make_room(out, line)?;
     line.push(byte);
@@ -35,7 +35,7 @@ fn add_byte<K: Sink>(out: &mut K, line: &mut Line, byte: u8) -> Result<(), SinkF
 }
 
 fn add_text<K: Sink>(out: &mut K, line: &mut Line, text: &[u8]) -> Result<(), SinkFault>
-    ensures { Adds (K.told out.old) (K.told out.new) (K.faults out.old) (K.faults out.new) line.old.items line.new.items result text.now }
+    ensures { Adds K.meaning out.old out.new line.old.items line.new.items result text.now }
 {
     for byte in text {
         add_byte(out, line, *byte)?;
@@ -44,7 +44,7 @@ fn add_text<K: Sink>(out: &mut K, line: &mut Line, text: &[u8]) -> Result<(), Si
 }
 
 fn add_number<K: Sink>(out: &mut K, line: &mut Line, number: u128) -> Result<(), SinkFault>
-    ensures { Adds (K.told out.old) (K.told out.new) (K.faults out.old) (K.faults out.new) line.old.items line.new.items result (decimal number) }
+    ensures { Adds K.meaning out.old out.new line.old.items line.new.items result (decimal number) }
 {
     if number < 10 {
         add_byte(out, line, b'0' + number as u8)
@@ -55,7 +55,7 @@ fn add_number<K: Sink>(out: &mut K, line: &mut Line, number: u128) -> Result<(),
 }
 
 fn add_signed<K: Sink>(out: &mut K, line: &mut Line, number: i128) -> Result<(), SinkFault>
-    ensures { Adds (K.told out.old) (K.told out.new) (K.faults out.old) (K.faults out.new) line.old.items line.new.items result (signed_decimal number) }
+    ensures { Adds K.meaning out.old out.new line.old.items line.new.items result (signed_decimal number) }
 {
     let size = number.unsigned_abs();
     if number < 0 {
@@ -73,7 +73,7 @@ fn bit_digit(bit: bool) -> u8
 }
 
 fn add_digits<K: Sink>(out: &mut K, line: &mut Line, bits: &[bool]) -> Result<(), SinkFault>
-    ensures { Adds (K.told out.old) (K.told out.new) (K.faults out.old) (K.faults out.new) line.old.items line.new.items result (map bit_digit bits.now) }
+    ensures { Adds K.meaning out.old out.new line.old.items line.new.items result (map bit_digit bits.now) }
 {
     for bit in bits {
         add_byte(out, line, bit_digit(*bit))?;
@@ -82,7 +82,7 @@ fn add_digits<K: Sink>(out: &mut K, line: &mut Line, bits: &[bool]) -> Result<()
 }
 
 fn add_bits<K: Sink>(out: &mut K, line: &mut Line, bits: &[bool]) -> Result<(), SinkFault>
-    ensures { Adds (K.told out.old) (K.told out.new) (K.faults out.old) (K.faults out.new) line.old.items line.new.items result (bits_text bits.now) }
+    ensures { Adds K.meaning out.old out.new line.old.items line.new.items result (bits_text bits.now) }
 {
     match bits {
         [] => add_byte(out, line, b'-'),
@@ -107,7 +107,7 @@ fn add_binary<K: Sink>(
     places: u32,
     number: u64,
 ) -> Result<(), SinkFault>
-    ensures { Adds (K.told out.old) (K.told out.new) (K.faults out.old) (K.faults out.new) line.old.items line.new.items result (binary_digits places number) }
+    ensures { Adds K.meaning out.old out.new line.old.items line.new.items result (binary_digits places number) }
 {
     for place in (0..places).rev() {
         add_byte(out, line, binary_digit(number, place))?;
@@ -116,7 +116,7 @@ fn add_binary<K: Sink>(
 }
 
 fn add_ket<K: Sink>(out: &mut K, line: &mut Line, qubits: u32, index: u64) -> Result<(), SinkFault>
-    ensures { Adds (K.told out.old) (K.told out.new) (K.faults out.old) (K.faults out.new) line.old.items line.new.items result (ket_text qubits index) }
+    ensures { Adds K.meaning out.old out.new line.old.items line.new.items result (ket_text qubits index) }
 {
     add_byte(out, line, b'|')?;
     add_binary(out, line, qubits, index)?;
@@ -129,7 +129,7 @@ pub(crate) fn add_piece<K: Sink>(
     line: &mut Line,
     piece: &Piece<'_>,
 ) -> Result<(), SinkFault>
-    ensures { Adds (K.told out.old) (K.told out.new) (K.faults out.old) (K.faults out.new) line.old.items line.new.items result (piece_text piece.now) }
+    ensures { Adds K.meaning out.old out.new line.old.items line.new.items result (piece_text piece.now) }
 {
     match piece {
         Piece::Text(text) => add_text(out, line, text),

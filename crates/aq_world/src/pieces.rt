@@ -1,4 +1,3 @@
-ghost use Rattle.std.specs.Fmt.{decimal};
 ghost use Rattle.aq_world.specs.Prints.{Prints};
 ghost use Rattle.aq_world.specs.Pieces.{pieces_text};
 
@@ -30,18 +29,11 @@ pub enum Piece<'a> {
 /// sink, and puts a line of at most 256 bytes by one call where the sink takes all of it. `Failed` and
 /// `Memory` are the sink's own; a front of the text is then put.
 pub fn put_pieces<K: Sink>(out: &mut K, pieces: &[Piece<'_>]) -> Result<(), SinkFault>
-    ensures { Prints (K.told out.old) (K.told out.new) (K.faults out.old) (K.faults out.new) result (pieces_text pieces.now) }
+    ensures { Prints K.meaning out.old out.new result (pieces_text pieces.now) }
 {
     let mut line = Line::new();
     for piece in pieces {
         add_piece(out, &mut line, piece)?;
     }
     put_text(out, line.as_slice())
-}
-
-/// Puts the decimal digits of a number, as `put_pieces` does.
-pub fn put_number<K: Sink>(out: &mut K, number: u64) -> Result<(), SinkFault>
-    ensures { Prints (K.told out.old) (K.told out.new) (K.faults out.old) (K.faults out.new) result (decimal number) }
-{
-    put_pieces(out, &[Piece::Number(number)])
 }

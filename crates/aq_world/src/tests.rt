@@ -1,12 +1,15 @@
+use crate::out_sink::write_some;
+use crate::reading::{Reading, read_at_most, write_whole};
 use crate::{
     FileShelf, HonestShelf, HonestSink, MemoryShelf, MemorySink, Named, OutSink, Piece, ReadFault,
-    Shelf, Sink, SinkFault, put_number, put_pieces, put_text,
+    Shelf, Sink, put_pieces, put_text,
 };
 use aq_lex::Text;
 use sqlite_items::Items;
 use std::alloc::{AllocError, Global};
-use std::fs;
+use std::io::{ErrorKind, Read, Write};
 use std::test::Fail;
+use std::{fs, io};
 
 /// The byte that a test shows for an answer: how many bytes were read, or why none were.
 fn read_by<S: Shelf>(shelf: &mut S, name: &str, most: u64) -> Result<usize, u8> {
@@ -120,7 +123,7 @@ fn a_failed_call_leaves_a_front(rt: HostRuntime) -> Result<(), Fail> {
     assert!(rt; !put_by(&mut out, &line));
     assert_eq!(rt; out.bytes.as_slice(), b"1 pos".as_slice());
     assert_eq!(rt; (out.calls, out.count), (6, 1));
-    assert!(rt; put_number(&mut out, 20).is_ok());
+    assert!(rt; put_by(&mut out, &[Piece::Number(20)]));
     assert_eq!(rt; out.bytes.as_slice(), b"1 pos20".as_slice());
     assert!(rt; matches!(out.put(b""), Ok(0)));
     Ok(())
@@ -190,6 +193,8 @@ fn files_and_output_of_the_runtime(rt: HostRuntime) -> Result<(), Fail> {
     assert_eq!(rt; read_by(&mut shelf, name, 9), Err(b'F'));
     assert_eq!(rt; read_by(&mut shelf, ".", 9), Err(b'F'));
     assert!(rt; !keep_by(&mut shelf, "no_such_folder/x", b"lost"));
+    assert!(rt; !keep_by(&mut shelf, "/dev/full", b"lost"));
+    assert!(rt; keep_by(&mut shelf, "/dev/null", b"lost"));
 
     let mut out = OutSink::new(&rt);
     assert!(rt;
@@ -204,5 +209,87 @@ fn files_and_output_of_the_runtime(rt: HostRuntime) -> Result<(), Fail> {
     );
     assert!(rt; put_text(&mut out, b"and one text\n").is_ok());
     assert!(rt; matches!(out.put(b""), Ok(0)));
+    Ok(())
+}
+
+/// Four bytes, each by a read of its own behind one that is interrupted, and then as a file that can't be read.
+#[derive(Drop)]
+struct Drips {
+    turn: u8,
+}
+
+impl Read for Drips {
+    fn read(&mut self, buf: &mut [u8]) -> io::Result<usize> {
+        let turn = self.turn;
+        self.turn = turn.saturating_add(1);
+        if turn % 2 == 0 {
+            return Err(io::Error::from(ErrorKind::Interrupted));
+        }
+        if turn > 7 {
+            return Err(io::Error::from(ErrorKind::OutOfMemory));
+        }
+        if buf.is_empty() {
+            return Ok(0);
+        }
+        buf[0] = b'x';
+        Ok(1)
+    }
+}
+
+#[test]
+fn interrupted_reads_are_tried_again(rt: HostRuntime) -> Result<(), Fail> {
+    let alloc = rt.alloc();
+    let mut short = Reading {
+        file: Drips { turn: 0 },
+        failed: false,
+    };
+    match read_at_most(&mut short, alloc, 2) {
+        Err(ReadFault::TooLong(bytes)) => assert_eq!(rt; bytes.as_slice(), b"xxx".as_slice()),
+        _ => assert!(rt; false),
+    }
+    assert!(rt; !short.failed);
+    let mut whole = Reading {
+        file: Drips { turn: 0 },
+        failed: false,
+    };
+    assert!(rt; matches!(read_at_most(&mut whole, alloc, 9), Err(ReadFault::Failed)));
+    assert!(rt; whole.failed);
+    Ok(())
+}
+
+/// Takes a byte of each write behind one that is interrupted, and nothing any more once it has three.
+#[derive(Drop)]
+struct Pipe {
+    turn: u8,
+    taken: u8,
+}
+
+impl Write for Pipe {
+    fn write(&mut self, buf: &[u8]) -> io::Result<usize> {
+        let turn = self.turn;
+        self.turn = turn.saturating_add(1);
+        if turn % 2 == 0 {
+            return Err(io::Error::from(ErrorKind::Interrupted));
+        }
+        if buf.is_empty() || self.taken >= 3 {
+            return Ok(0);
+        }
+        self.taken += 1;
+        Ok(1)
+    }
+
+    fn flush(&mut self) -> io::Result<()> {
+        Ok(())
+    }
+}
+
+#[test]
+fn interrupted_writes_are_tried_again(rt: HostRuntime) -> Result<(), Fail> {
+    let mut pipe = Pipe { turn: 0, taken: 0 };
+    assert_eq!(rt; write_some(&mut pipe, b"ab"), Some(1));
+    assert!(rt; write_whole(&mut pipe, b"bc"));
+    assert_eq!(rt; write_some(&mut pipe, b"d"), None);
+    assert!(rt; !write_whole(&mut pipe, b"d"));
+    assert_eq!(rt; (pipe.turn, pipe.taken), (10, 3));
     Ok(())
 }

@@ -16,4 +16,4 @@ returns-in_err-add_number g t c =
 pub returns-in_ok-add_number : goal.returns-in_ok-add_number
 returns-in_ok-add_number g t c =
     rw (decimal_step_wide c.args.number (omega arith) (omega arith))
-    (Adds-then _ _ _ _ _ c.in_ok-add_number.ensures c.add_byte-else-number-lt10.ensures)
+    (Adds-then _ _ _ _ c.in_ok-add_number.ensures c.add_byte-else-number-lt10.ensures)

@@ -1,8 +1,11 @@
-use Rattle.std.proofs.Common.{◌∙◌, ap, Err, arith}
+use Rattle.std.proofs.Common.{refl, ◌∙◌, ap, Err, arith}
 use Rattle.std.proofs.lemmas.Result.{err_from_is_err_and}
 use Rattle.aq_world.proofs.PrintsLemmas.{part-more}
-use Rattle.aq_world.proofs.LinesLemmas.{Added-then, Stopped-then, Adds-stops, part-stops, digits-left}
+use Rattle.aq_world.proofs.LinesLemmas.{Added-none, Added-then, Stopped-then, Adds-stops, part-stops, digits-left}
 use Rattle.aq_world.proofs.line.add_binary.Goals as goal
+
+pub loop-place-init : goal.loop-place-init
+loop-place-init g c = (_, Added-none _ _ _, refl)
 
 pub loop-place-preserved : goal.loop-place-preserved
 loop-place-preserved g c =

@@ -6,5 +6,5 @@ use Rattle.aq_world.proofs.line.add_binary.Given as goal
 abbrev pub invariant-loop-place : goal.invariant-loop-place
 invariant-loop-place g l =
     (done : List ℕ)
-    × Added (g.K.Sink.told l.fn.out) (g.K.Sink.told l.out) (g.K.Sink.faults l.fn.out) (g.K.Sink.faults l.out) l.fn.line.items l.line.items done
+    × Added g.K.Sink.meaning l.fn.out l.out l.fn.line.items l.line.items done
     × (done ++ binary_digits l.place l.number ≡ binary_digits l.places l.number)

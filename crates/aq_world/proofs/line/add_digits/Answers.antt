@@ -1,8 +1,11 @@
-use Rattle.std.proofs.Common.{◌∙◌, ap, Err, false, arith}
+use Rattle.std.proofs.Common.{refl, ◌∙◌, ap, Err, false, arith}
 use Rattle.std.proofs.lemmas.Result.{err_from_is_err_and}
 use Rattle.aq_world.proofs.PrintsLemmas.{part-more}
-use Rattle.aq_world.proofs.LinesLemmas.{Added-then, Stopped-then, Adds-stops, part-stops, bits-left}
+use Rattle.aq_world.proofs.LinesLemmas.{Added-none, Added-then, Stopped-then, Adds-stops, part-stops, bits-left}
 use Rattle.aq_world.proofs.line.add_digits.Goals as goal
+
+pub loop-bit-init : goal.loop-bit-init
+loop-bit-init g c = (_, Added-none _ _ _, refl)
 
 pub loop-bit-preserved : goal.loop-bit-preserved
 loop-bit-preserved g c =

@@ -6,5 +6,5 @@ use Rattle.aq_world.proofs.line.add_digits.Given as goal
 abbrev pub invariant-loop-bit : goal.invariant-loop-bit
 invariant-loop-bit g l =
     (done : List ℕ)
-    × Added (g.K.Sink.told l.fn.out) (g.K.Sink.told l.out) (g.K.Sink.faults l.fn.out) (g.K.Sink.faults l.out) l.fn.line.items l.line.items done
+    × Added g.K.Sink.meaning l.fn.out l.out l.fn.line.items l.line.items done
     × (done ++ map bit_digit (drop l.bit-index l.bits) ≡ map bit_digit l.bits)

@@ -16,4 +16,4 @@ returns-in_err-add_binary g c =
     Adds-stops _ (Stopped-then c.in_ok-add_byte.ensures (Stopped-more (62 ∷ []) c.in_err-add_binary.ensures)) (p.1 ∙ ap (λ e. Err e) p.2)
 
 pub returns : goal.returns
-returns g c = Adds-then _ _ _ _ _ c.in_ok-add_byte.ensures (Adds-then _ _ _ _ _ c.in_ok-add_binary.ensures c.add_byte-2.ensures)
+returns g c = Adds-then _ _ _ _ c.in_ok-add_byte.ensures (Adds-then _ _ _ _ c.in_ok-add_binary.ensures c.add_byte-2.ensures)

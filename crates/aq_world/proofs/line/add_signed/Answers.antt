@@ -18,4 +18,4 @@ returns-in_ok-add_byte g c =
     let negative : c.args.number <ℤ pos 0 = grind (arith, ints) in
     let size : c.unsigned_abs-size.result ≡ unsigned_abs c.args.number = grind (arith, ints) in
     rw (negative-text c.args.number negative ∙ ap (λ n. 45 ∷ decimal n) (sym size))
-    (Adds-then _ _ _ _ _ c.in_ok-add_byte.ensures c.add_number.ensures)
+    (Adds-then _ _ _ _ c.in_ok-add_byte.ensures c.add_number.ensures)

@@ -5,5 +5,5 @@ use Rattle.aq_world.proofs.line.add_text.Given as goal
 abbrev pub invariant-loop-byte : goal.invariant-loop-byte
 invariant-loop-byte g l =
     (done : List ℕ)
-    × Added (g.K.Sink.told l.fn.out) (g.K.Sink.told l.out) (g.K.Sink.faults l.fn.out) (g.K.Sink.faults l.out) l.fn.line.items l.line.items done
+    × Added g.K.Sink.meaning l.fn.out l.out l.fn.line.items l.line.items done
     × (done ++ drop l.byte-index l.text ≡ l.text)

@@ -6,5 +6,5 @@ use Rattle.aq_world.proofs.pieces.put_pieces.Given as goal
 abbrev pub invariant-loop-piece : goal.invariant-loop-piece
 invariant-loop-piece g l =
     (done : List ℕ)
-    × Added (g.K.Sink.told l.fn.out) (g.K.Sink.told l.out) (g.K.Sink.faults l.fn.out) (g.K.Sink.faults l.out) [] l.line.items done
+    × Added g.K.Sink.meaning l.fn.out l.out [] l.line.items done
     × (done ++ pieces_text (drop l.piece-index l.pieces) ≡ pieces_text l.pieces)
