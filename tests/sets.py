@@ -490,6 +490,18 @@ gives_up("a state that doesn't fit before one that escapes", "qubit q; h q;", BI
 MINUS_W_CUBED = "(0,0,0,-1)/0"
 # of the state 1: the first qubit has |0> - |1>, the second |0> + i|1> and the third, which isn't turned, |0> + |1>
 UNTURNED = ["(1,0,0,0)/3"] * 2 + ["(0,0,1,0)/3"] * 2 + ["(-1,0,0,0)/3"] * 2 + ["(0,0,-1,0)/3"] * 2
+KETS = [format(place, "03b") for place in range(8)]
+
+
+def toffoli(ket):
+    return {"110": "111", "111": "110"}.get(ket, ket)
+
+
+def phase(ket):
+    """t is tdg and a quarter more: i wherever q[1] is 1 between the last two cx, so where the first two digits differ."""
+    return I if ket[0] != ket[1] else ONE
+
+
 EXAMPLES = [
     ("swap_all", VERIFIED, 0),
     ("diagonal", VERIFIED, 0),
@@ -500,6 +512,11 @@ EXAMPLES = [
     ("fourier_unturned", refuted([("001", ONE)], [(format(place, "03b"), end) for place, end in enumerate(UNTURNED)]), 1),
     ("two_bells", VERIFIED, 0),
     ("two_bells_twins", refuted([("0001", ONE)], [(ket, "(1,0,0,0)/2") for ket in ["0001", "0010", "1101", "1110"]]), 1),
+    ("half_adder", VERIFIED, 0),
+    # 00 becomes 10, whose sum is 1 without a carry
+    ("half_adder_stray", refuted([("00000", ONE)], [("00110", ONE)]), 1),
+    ("toffoli_by_t", VERIFIED, 0),
+    ("toffoli_by_t_wrong_phase", refuted([(ket + ket, ONE) for ket in KETS], [(ket + toffoli(ket), phase(ket)) for ket in KETS]), 1),
     # 8 * 512 * (256 * (9 + 256) + 256 + 256) = 279,969,792
     ("flip_all", GAVE_UP_STEPS, 2),
 ]
