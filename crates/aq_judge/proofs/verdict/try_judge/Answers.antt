@@ -13,11 +13,11 @@ use Rattle.aq_judge.proofs.StmtLaws.{fragment_gates_valid}
 use Rattle.aq_judge.proofs.VerdictLaws.{judged, wide_before, wide_after}
 use Rattle.aq_judge.proofs.verdict.try_judge.Goals as goal
 
-pub met_states-allowed-requires-clause-there : goal.met_states-allowed-requires-clause-there
-met_states-allowed-requires-clause-there c = cases_there c.args.program.now c.args.sets.now c.args.obligation.now.goal.cases c.as_slice.result.now c.as_slice.ensures c.requires.bound.goal
+pub met_states-requires-clause-there : goal.met_states-requires-clause-there
+met_states-requires-clause-there c = cases_there c.args.program.now c.args.sets.now c.args.obligation.now.goal.cases c.as_slice.result.now c.as_slice.ensures c.requires.bound.goal
 
-pub met_states-starts-requires-clause-there : goal.met_states-starts-requires-clause-there
-met_states-starts-requires-clause-there c = cases_there c.args.program.now c.args.sets.now c.args.obligation.now.from c.as_slice-2.result.now c.as_slice-2.ensures c.requires.bound.from
+pub met_states-requires-2-clause-there : goal.met_states-requires-2-clause-there
+met_states-requires-2-clause-there c = cases_there c.args.program.now c.args.sets.now c.args.obligation.now.from c.as_slice-2.result.now c.as_slice-2.ensures c.requires.bound.from
 
 pub returns-in_err-allowed-clause-err : goal.returns-in_err-allowed-clause-err
 returns-in_err-allowed-clause-err c =
