@@ -8,28 +8,28 @@ ghost use Rattle.aq_base.specs.Limits.{most_steps};
 ghost use Rattle.aq_top.specs.Tasks.{task_of, enough_for, obligation_of};
 
 use crate::load::Loaded;
-use aq_report::Verdict;
+use aq_base::MOST_STEPS;
+use aq_obligations::obligation_at_end;
+use aq_report::{Verdict, Why};
 use std::alloc::Global;
 
-/// The limit of steps of an obligation.
-const MOST_STEPS: u64 = 20_000_000;
-
 /// Judges what was read. The verdict is justified; it is given up for memory where that is wanting.
-pub(crate) fn judge(alloc: Global, loaded: &Loaded) -> Verdict
-    requires gates { are_gates loaded.now.program.body ≡ true }
-    requires program { IsValidProgram loaded.now.program }
-    requires sets { IsValidSets loaded.now.sets }
-    requires before { All (IsBoundCase loaded.now.program loaded.now.sets) loaded.now.claims.before }
-    requires after { All (IsBoundCase loaded.now.program loaded.now.sets) loaded.now.claims.after }
-    ensures { IsJustified most_steps (enough_for (task_of loaded.now.program loaded.now.sets loaded.now.claims))
-        (obligation_of (task_of loaded.now.program loaded.now.sets loaded.now.claims)) result }
+pub(crate) fn judge(alloc: Global, loaded: Loaded) -> Verdict
+    requires gates { are_gates loaded.program.body ≡ true }
+    requires program { IsValidProgram loaded.program }
+    requires sets { IsValidSets loaded.sets }
+    requires before { All (IsBoundCase loaded.program loaded.sets) loaded.claims.before }
+    requires after { All (IsBoundCase loaded.program loaded.sets) loaded.claims.after }
+    ensures { IsJustified most_steps (enough_for (task_of loaded.program loaded.sets loaded.claims))
+        (obligation_of (task_of loaded.program loaded.sets loaded.claims)) result }
 {
-    aq_judge::judge(
-        alloc,
-        &loaded.program,
-        &loaded.sets,
-        loaded.claims.before.as_slice(),
-        loaded.claims.after.as_slice(),
-        MOST_STEPS,
-    )
+    let Loaded {
+        program,
+        sets,
+        claims,
+    } = loaded;
+    let Ok(obligation) = obligation_at_end(alloc, &program, claims) else {
+        return Verdict::GaveUp(Why::Memory);
+    };
+    aq_judge::judge(alloc, &program, &sets, &obligation, MOST_STEPS)
 }

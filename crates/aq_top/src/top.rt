@@ -44,7 +44,7 @@ fn check<S: Shelf, K: Sink>(
 {
     match load(alloc, program, sets, shelf) {
         Ok(loaded) => {
-            let verdict = judge(alloc, &loaded);
+            let verdict = judge(alloc, loaded);
             say_report(out, &verdict)
         }
         Err(stop) => say_stop(out, program, sets, &stop),
