@@ -1,12 +1,12 @@
 -- What a replay answers: the end of the run, or the first cause that the run meets.
-use Rattle.std.specs.Prelude.{◌≡◌, ℕ, suc, ◌+◌, ◌<◌, ◌-◌, Bool, true, List, [], ◌∷◌, All, length, Result, Ok, Err}
+use Rattle.std.specs.Prelude.{◌≡◌, ℕ, suc, ◌+◌, ◌<◌, ◌-◌, Bool, true, List, [], ◌∷◌, All, length, Option, IfSome, Result, Ok, Err}
 use Rattle.std.specs.List.{list_any}
 use Rattle.aq_ring.specs.Fractions.{Amplitude}
 use Rattle.aq_ring.specs.Vectors.{IsZeroVector}
-use Rattle.aq_prog.specs.Events.{Event, Plays, Leaves, events, has_loop, IsLoopFree, AreGood, IsFirst, IsReplayed, IsCutShort, HasLeft, IsImpossible, outcomes_among}
+use Rattle.aq_prog.specs.Events.{Event, Plays, Leaves, events, events_at, outcome_event, has_loop, IsLoopFree, AreGood, IsFirst, IsReplayed, IsCutShort, HasLeft, IsImpossible, outcomes_among}
 use Rattle.aq_prog.specs.Gates.{project}
 use Rattle.aq_prog.specs.Programs.{IsValidStmt}
-use Rattle.aq_prog.specs.Runs.{State, Run, How}
+use Rattle.aq_prog.specs.Runs.{State, Run, How, meaning, run, measured, was_reset}
 use Rattle.aq_prog.specs.declared.gate.Gate.{Gate}
 use Rattle.aq_prog.specs.declared.stmt.Stmt.{Stmt}
 use Rattle.aq_plain.specs.Wide.{IsFirstWide}
@@ -102,6 +102,36 @@ Refuses n qubit v outcomes halt.ShortOutcomes = outcomes ≡ []
 Refuses n qubit v outcomes halt.Blocked = ⊥
 Refuses n qubit v outcomes (halt.Impossible left) = IsDead n qubit v outcomes left
 Refuses n qubit v outcomes (halt.Wide w) = ⊥
+
+-- ---- what the statements give, one by one and in order
+
+-- the bit is one of so many, if one is named
+abbrev pub IsIn : ℕ → Option ℕ → Type 0
+IsIn m bit = IfSome bit (λ b. b < m)
+
+abbrev pub IsMeasured : ℕ → ℕ → Option ℕ → State → State → Type 0
+IsMeasured n qubit bit s t = IsPlayed n (outcome_event n qubit s.vector s.outcomes) (measured n qubit bit s.outcomes s) s t
+
+abbrev pub HaltsMeasured : ℕ → ℕ → Option ℕ → State → Halt → Type 0
+HaltsMeasured n qubit bit s h = HaltsBy n (outcome_event n qubit s.vector s.outcomes) (measured n qubit bit s.outcomes s) s h
+
+abbrev pub IsReset : ℕ → ℕ → State → State → Type 0
+IsReset n qubit s t = IsPlayed n (outcome_event n qubit s.vector s.outcomes) (was_reset n qubit s.outcomes s) s t
+
+abbrev pub HaltsReset : ℕ → ℕ → State → Halt → Type 0
+HaltsReset n qubit s h = HaltsBy n (outcome_event n qubit s.vector s.outcomes) (was_reset n qubit s.outcomes s) s h
+
+abbrev pub PlaysStmt : ℕ → Stmt → State → State → Type 0
+PlaysStmt n x s t = IsPlayed n (events_at n x s) (meaning n x s) s t
+
+abbrev pub HaltsStmt : ℕ → Stmt → State → Halt → Type 0
+HaltsStmt n x s h = HaltsBy n (events_at n x s) (meaning n x s) s h
+
+abbrev pub PlaysAll : ℕ → List Stmt → State → State → Type 0
+PlaysAll n body s t = IsPlayed n (events n body s) (run n body s) s t
+
+abbrev pub HaltsAll : ℕ → List Stmt → State → Halt → Type 0
+HaltsAll n body s h = HaltsBy n (events n body s) (run n body s) s h
 
 -- what is told of it, where there were so many outcomes
 abbrev pub stop_of : ℕ → Halt → ReplayStop

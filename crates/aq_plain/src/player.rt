@@ -1,10 +1,11 @@
 //! A run of statements without loops, statement by statement.
-ghost use Rattle.std.specs.Prelude.{◌≡◌, ◌<◌, IfOk, IfErr, OnOk, false, length};
+ghost use Rattle.std.specs.Prelude.{◌≡◌, ◌<◌, IfOk, IfErr, OnOk, true, false, length};
 ghost use Rattle.std.specs.List.{list_any};
-ghost use Rattle.aq_prog.specs.Events.{events, events_at, has_loop};
+ghost use Rattle.aq_prog.specs.Events.{has_loop};
 ghost use Rattle.aq_prog.specs.Gates.{apply_gate, flip_gate};
-ghost use Rattle.aq_prog.specs.Runs.{has_bit, meaning, run};
-ghost use Rattle.aq_plain.specs.Replaying.{ArePlayable, IsPlayableStmt, state_of, IsPlayed, HaltsBy, IsTaken, Refuses};
+ghost use Rattle.aq_prog.specs.Runs.{has_bit};
+ghost use Rattle.aq_plain.specs.Replaying.{ArePlayable, IsPlayableStmt, state_of, IsIn, IsTaken, Refuses, IsMeasured, HaltsMeasured, IsReset, HaltsReset, PlaysStmt, HaltsStmt, PlaysAll, HaltsAll};
+ghost use Rattle.aq_plain.specs.declared.player.Halt.TheVariants as halts;
 
 use crate::apply::apply_plain;
 use crate::project::project_plain;
@@ -92,8 +93,62 @@ fn holds(guard: &Guard, bits: &[bool]) -> bool
     }
 }
 
+/// Measures the qubit. Gives the outcomes that are left.
+fn measure<'a>(
+    player: &mut Player,
+    qubit: u32,
+    bit: Option<u32>,
+    outcomes: &'a [bool],
+) -> Result<&'a [bool], Halt>
+    requires qubit { qubit < player.old.vector.qubits }
+    requires bit { IsIn (length player.old.bits) bit }
+    ensures qubits { OnOk result (player.new.vector.qubits ≡ player.old.vector.qubits) }
+    ensures bits { OnOk result (length player.new.bits ≡ length player.old.bits) }
+    ensures played { IfOk result (λ left. IsMeasured player.old.vector.qubits qubit bit (state_of player.old outcomes.now) (state_of player.new left.now)) }
+    ensures halted { IfErr result (HaltsMeasured player.old.vector.qubits qubit bit (state_of player.old outcomes.now)) }
+{
+    let (outcome, left) = take_outcome(&mut player.vector, qubit, outcomes)?;
+    if let Some(bit) = bit {
+        player.bits.set(bit as usize, outcome);
+    }
+    Ok(left)
+}
+
+/// Measures the qubit and makes it 0. Gives the outcomes that are left.
+fn reset<'a>(
+    alloc: Global,
+    player: &mut Player,
+    qubit: u32,
+    outcomes: &'a [bool],
+) -> Result<&'a [bool], Halt>
+    requires qubit { qubit < player.old.vector.qubits }
+    ensures qubits { OnOk result (player.new.vector.qubits ≡ player.old.vector.qubits) }
+    ensures bits { OnOk result (player.new.bits ≡ player.old.bits) }
+    ensures played { IfOk result (λ left. IsReset player.old.vector.qubits qubit (state_of player.old outcomes.now) (state_of player.new left.now)) }
+    ensures halted { IfErr result (HaltsReset player.old.vector.qubits qubit (state_of player.old outcomes.now)) }
+{
+    let (outcome, left) = take_outcome(&mut player.vector, qubit, outcomes)?;
+    if outcome {
+        flip(alloc, &mut player.vector, qubit);
+    }
+    Ok(left)
+}
+
+/// Goes on where the bit has the guard's value.
+fn assume(player: &Player, guard: &Guard) -> Result<(), Halt>
+    ensures holds { OnOk result (has_bit guard.now player.now.bits ≡ true) }
+    ensures blocked { IfErr result (λ e. (e ≡ halts.Blocked) × (has_bit guard.now player.now.bits ≡ false)) }
+{
+    if holds(guard, player.bits.as_slice()) {
+        Ok(())
+    } else {
+        Err(Halt::Blocked)
+    }
+}
+
 /// Plays a statement. Gives the outcomes that are left.
 #[cycle(playing)]
+#[tactic(auto, using(crate::proofs::PlayLaws::yes_playable, crate::proofs::PlayLaws::no_playable, crate::proofs::PlayLaws::yes_free, crate::proofs::PlayLaws::no_free))]
 fn play<'a>(
     alloc: Global,
     player: &mut Player,
@@ -104,34 +159,16 @@ fn play<'a>(
     requires loop_free { has_loop stmt.now ≡ false }
     ensures qubits { OnOk result (player.new.vector.qubits ≡ player.old.vector.qubits) }
     ensures bits { OnOk result (length player.new.bits ≡ length player.old.bits) }
-    ensures played { IfOk result (λ left. IsPlayed player.old.vector.qubits
-        (events_at player.old.vector.qubits stmt.now (state_of player.old outcomes.now))
-        (meaning player.old.vector.qubits stmt.now (state_of player.old outcomes.now))
-        (state_of player.old outcomes.now) (state_of player.new left.now)) }
-    ensures halted { IfErr result (HaltsBy player.old.vector.qubits
-        (events_at player.old.vector.qubits stmt.now (state_of player.old outcomes.now))
-        (meaning player.old.vector.qubits stmt.now (state_of player.old outcomes.now))
-        (state_of player.old outcomes.now)) }
+    ensures played { IfOk result (λ left. PlaysStmt player.old.vector.qubits stmt.now (state_of player.old outcomes.now) (state_of player.new left.now)) }
+    ensures halted { IfErr result (HaltsStmt player.old.vector.qubits stmt.now (state_of player.old outcomes.now)) }
 {
     match stmt {
         Stmt::Gate(gate) => {
             apply_plain(&mut player.vector, gate)?;
             Ok(outcomes)
         }
-        Stmt::Measure { qubit, bit } => {
-            let (outcome, left) = take_outcome(&mut player.vector, *qubit, outcomes)?;
-            if let Some(bit) = bit {
-                player.bits.set(*bit as usize, outcome);
-            }
-            Ok(left)
-        }
-        Stmt::Reset { qubit } => {
-            let (outcome, left) = take_outcome(&mut player.vector, *qubit, outcomes)?;
-            if outcome {
-                flip(alloc, &mut player.vector, *qubit);
-            }
-            Ok(left)
-        }
+        Stmt::Measure { qubit, bit } => measure(player, *qubit, *bit, outcomes),
+        Stmt::Reset { qubit } => reset(alloc, player, *qubit, outcomes),
         Stmt::If { guard, yes, no } => {
             if holds(guard, player.bits.as_slice()) {
                 play_all(alloc, player, yes.as_slice(), outcomes)
@@ -140,11 +177,8 @@ fn play<'a>(
             }
         }
         Stmt::Assume { guard } => {
-            if holds(guard, player.bits.as_slice()) {
-                Ok(outcomes)
-            } else {
-                Err(Halt::Blocked)
-            }
+            assume(player, guard)?;
+            Ok(outcomes)
         }
         Stmt::Assert { .. } => Ok(outcomes),
         Stmt::While { .. } => unreachable!(),
@@ -163,14 +197,8 @@ pub(crate) fn play_all<'a>(
     requires loop_free { list_any has_loop body.now ≡ false }
     ensures qubits { OnOk result (player.new.vector.qubits ≡ player.old.vector.qubits) }
     ensures bits { OnOk result (length player.new.bits ≡ length player.old.bits) }
-    ensures played { IfOk result (λ left. IsPlayed player.old.vector.qubits
-        (events player.old.vector.qubits body.now (state_of player.old outcomes.now))
-        (run player.old.vector.qubits body.now (state_of player.old outcomes.now))
-        (state_of player.old outcomes.now) (state_of player.new left.now)) }
-    ensures halted { IfErr result (HaltsBy player.old.vector.qubits
-        (events player.old.vector.qubits body.now (state_of player.old outcomes.now))
-        (run player.old.vector.qubits body.now (state_of player.old outcomes.now))
-        (state_of player.old outcomes.now)) }
+    ensures played { IfOk result (λ left. PlaysAll player.old.vector.qubits body.now (state_of player.old outcomes.now) (state_of player.new left.now)) }
+    ensures halted { IfErr result (HaltsAll player.old.vector.qubits body.now (state_of player.old outcomes.now)) }
 {
     let mut left = outcomes;
     for stmt in body {
