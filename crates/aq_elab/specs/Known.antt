@@ -1,5 +1,5 @@
 -- What the statements before a place have made known, and computations that add to it or stop at the first fault.
-use Rattle.std.specs.Prelude.{◌≡◌, ℕ, List, [], ◌∷◌, Option, Some, None, Result, Ok, Err, Bool, if◌then◌else◌}
+use Rattle.std.specs.Prelude.{ℕ, List, [], ◌∷◌, Option, Some, None, Result, if◌then◌else◌}
 use Rattle.std.specs.Str.{bytes_eq}
 use Rattle.aq_base.specs.Checks.{CheckedBy, GivesUnless}
 use Rattle.aq_elab.specs.declared.fault.ElabFault.{ElabFault}

@@ -2,8 +2,6 @@ pub mod PlayLaws
 pub mod CompareLaws
 pub mod FindLaws
 pub mod StmtLaws
-pub mod GuardLaws
-pub mod StepLaws
 pub mod KeptLaws
 pub mod MetLaws
 pub mod VerdictLaws

@@ -20,7 +20,7 @@ use Rattle.aq_obligations.specs.Asking.{cases_of, products_in}
 use Rattle.aq_obligations.specs.Bound.{IsBoundCase}
 use Rattle.aq_obligations.specs.Claims.{are_met}
 use Rattle.aq_obligations.specs.Correct.{zeros}
-use Rattle.aq_obligations.specs.GatesOnly.{met_vectors}
+use Rattle.aq_correct.specs.GatesOnly.{met_vectors}
 use Rattle.aq_obligations.specs.declared.bound.BoundCase.{BoundCase}
 use Rattle.aq_judge.specs.Finding.{amps_of, HasWide, StopsFor}
 use Rattle.aq_judge.specs.declared.stop.Stop.{Stop}
@@ -110,8 +110,8 @@ on_qubits n states list e a = subst (λ (l : List StateVector). All (λ (w : Sta
 pub as_long : (n : ℕ) (states list : List StateVector) → list ≡ states → All (IsSized n) states → All (λ w. length w.amps ≡ 2 ^ n) list
 as_long n states list e a = subst (λ (l : List StateVector). All (λ (w : StateVector). length w.amps ≡ 2 ^ n) l) (sym e) (λ k d h. (a k d h).long)
 
-pub all_there : (p : Program) (s : Sets) (cases : List BoundCase) → All (IsBoundCase p s) cases → All (λ c. c.set < length s.exprs) cases
-all_there p s cases a = λ k d h. (a k d h).there
+pub cases_there : (p : Program) (s : Sets) (cases same : List BoundCase) → same ≡ cases → All (IsBoundCase p s) cases → All (λ c. c.set < length s.exprs) same
+cases_there p s cases same e a = subst (λ (l : List BoundCase). All (λ (c : BoundCase). c.set < length s.exprs) l) (sym e) (λ k d h. (a k d h).there)
 
 -- ---- products that don't fit
 

@@ -1,16 +1,21 @@
 -- Statements that are gates.
-use Rattle.std.proofs.Common.{◌≡◌, ℕ, zero, suc, ◌+◌, ◌<◌, true, List, [], ◌∷◌, All, length, map, drop, get_or, slice_index_or, Option, Some, None, refl, ap, sym, ◌∙◌, subst, arith, drop-cons, add-one, ap₂}
+use Rattle.std.proofs.Common.{◌≡◌, ℕ, zero, suc, ◌+◌, ◌<◌, Bool, true, ◌||◌, List, [], ◌∷◌, All, length, map, drop, get_or, slice_index_or, Option, Some, None, refl, ap, sym, ◌∙◌, subst, arith, drop-cons, add-one, ap₂}
+use Rattle.std.specs.List.{list_any}
 use Rattle.std.specs.Option.{is_some}
+use Rattle.aq_prog.specs.Cuts.{cut_step, has_cut, AreUncut}
 use Rattle.aq_lex.proofs.Runs.{both}
 use Rattle.aq_prog.specs.Gates.{IsValidGate}
-use Rattle.aq_prog.specs.Programs.{IsValidLevel, IsValidStmt, IsValidProgram}
+use Rattle.aq_prog.specs.Programs.{IsValidLevel, IsValidStmt}
 use Rattle.aq_prog.specs.declared.gate.Gate.{Gate}
 use Rattle.aq_prog.specs.declared.program.Program.{Program}
 use Rattle.aq_prog.specs.declared.stmt.Stmt.{Stmt}
 use Rattle.aq_prog.specs.declared.stmt.Stmt.TheVariants as stmt
 use Rattle.aq_prog.specs.declared.stmt.Stmt.TheOpen.{Stmt-F}
-use Rattle.aq_prog.specs.declared.stmt.Stmt.TheFolds.{every_here-Stmt, fold_out-Stmt, map-Stmt}
+use Rattle.aq_prog.specs.declared.stmt.Stmt.TheFolds.{every_here-Stmt, fold_out-Stmt, fold-roll-Stmt, map-Stmt}
 use Rattle.aq_prog.specs.declared.stmt.Stmt.TheViews.{roll-Stmt, out-Stmt, roll-out-Stmt}
+use Rattle.aq_sets.specs.declared.sets.Sets.{Sets}
+use Rattle.aq_obligations.specs.Bound.{IsBoundObligation}
+use Rattle.aq_obligations.specs.declared.bound.Obligation.{Obligation}
 use Rattle.aq_judge.specs.Bodies.{gate_in, gate_step, is_gate, are_gates, gates_in}
 
 -- one level of a statement: its gate
@@ -77,9 +82,9 @@ gates_valid n m k [] v i d h = absurd (omega (arith, h))
 gates_valid n m k (s ∷ ss) v i d h =
     cons_valid n m k s ss (gate_in s) refl (v 0 s (omega arith)) (gates_valid n m k ss (λ j e l. v (suc j) e (omega (arith, l)))) i d h
 
--- the gates of a valid program are valid
-pub program_gates_valid : (p : Program) → IsValidProgram p → All (IsValidGate p.qubits) (gates_in p.body)
-program_gates_valid p v = gates_valid p.qubits p.bits (length p.claims) p.body v.body
+-- the gates of an obligation of a program are valid
+pub fragment_gates_valid : (p : Program) (s : Sets) (o : Obligation) → IsBoundObligation p s o → All (IsValidGate p.qubits) (gates_in o.fragment)
+fragment_gates_valid p s o b = gates_valid p.qubits p.bits (length p.claims) o.fragment b.fragment
 
 -- a body that has gates alone is its gates
 cons_is : (s : Stmt) (ss : List Stmt) (o : Option Gate) → gate_in s ≡ o → is_some o ≡ true → ss ≡ map stmt.Gate (gates_in ss) → s ∷ ss ≡ map stmt.Gate (gates_in (s ∷ ss))
@@ -89,6 +94,15 @@ cons_is s ss (Some g) e some rest = rw e (ap₂ (λ (x : Stmt) (xs : List Stmt).
 pub body_is : (body : List Stmt) → are_gates body ≡ true → body ≡ map stmt.Gate (gates_in body)
 body_is [] e = refl
 body_is (s ∷ ss) e = let b = both (is_gate s) (are_gates ss) e in cons_is s ss (gate_in s) refl b.0 (body_is ss b.1)
+
+uncut_gates : (gates : List Gate) → AreUncut (map stmt.Gate gates)
+uncut_gates [] = refl
+uncut_gates (g ∷ gs) =
+    ap (λ (b : Bool). b || list_any has_cut (map stmt.Gate gs)) (ap has_cut (sym (stmt.rolls-Gate g)) ∙ fold-roll-Stmt Bool cut_step (Stmt-F.Gate g)) ∙ uncut_gates gs
+
+-- and has no cut
+pub gates_uncut : (body : List Stmt) → are_gates body ≡ true → AreUncut body
+gates_uncut body e = subst AreUncut (sym (body_is body e)) (uncut_gates (gates_in body))
 
 -- ---- the gates from a place on
 

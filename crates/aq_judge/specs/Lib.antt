@@ -1,5 +1,4 @@
 pub mod Bodies
-pub mod Counting
 pub mod Examples
 pub mod Finding
 pub mod Met

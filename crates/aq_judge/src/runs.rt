@@ -84,16 +84,17 @@ fn refutation(
 pub(crate) fn judge_starts(
     alloc: Global,
     program: &Program,
+    body: &[Stmt],
     starts: &[Vector],
     allowed: &[Vector],
 ) -> Result<Verdict, AllocError>
-    requires valid { All (IsValidGate program.now.qubits) (gates_in program.now.body) }
+    requires valid { All (IsValidGate program.now.qubits) (gates_in body.now) }
     requires starts { All (λ w. w.qubits ≡ program.now.qubits) starts.now }
     requires allowed { All (λ w. length w.amps ≡ 2 ^ program.now.qubits) allowed.now }
-    ensures { IfOk result (λ v. Judges program.now.qubits program.now.bits (gates_in program.now.body) (amps_of allowed.now) (amps_of starts.now) v) }
+    ensures { IfOk result (λ v. Judges program.now.qubits program.now.bits (gates_in body.now) (amps_of allowed.now) (amps_of starts.now) v) }
 {
     for state in starts {
-        match end_of(alloc, program.body.as_slice(), state, allowed)? {
+        match end_of(alloc, body, state, allowed)? {
             End::Kept => {}
             End::Unclear => return Ok(Verdict::GaveUp(Why::Width)),
             End::Lost(end) => {

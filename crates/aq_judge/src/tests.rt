@@ -8,7 +8,7 @@ ghost use Rattle.aq_judge.specs.Examples.{IsOneGate, IsSmallCase, both_kets, one
 
 use crate::judge;
 use aq_lex::Text;
-use aq_obligations::BoundCase;
+use aq_obligations::{AskedClaims, BoundCase, obligation_at_end};
 use aq_prog::{BitRegister, Entry, Gate, Guard, Program, Stmt, gate_named};
 use aq_report::{Verdict, Why};
 use aq_ring::Amp;
@@ -159,14 +159,8 @@ fn verdict_of(
     let sets = sets(alloc, amp)?;
     let before = cases_of(alloc, before)?;
     let after = cases_of(alloc, after)?;
-    Ok(judge(
-        alloc,
-        &program,
-        &sets,
-        before.as_slice(),
-        after.as_slice(),
-        limit,
-    ))
+    let obligation = obligation_at_end(alloc, &program, AskedClaims { before, after })?;
+    Ok(judge(alloc, &program, &sets, &obligation, limit))
 }
 
 /// What a verdict says.

@@ -2,6 +2,7 @@
 use Rattle.std.proofs.Common.{◌≡◌, ℕ, ◌+◌, ◌<◌, ◌≤◌, ◌==◌, Bool, true, false, cond, ◌&&◌, nat_lt, List, [], ◌∷◌, All, IfOk, length, map, Option, None, Some, Result, Ok, Err, refl, ap, ◌∙◌, subst, arith, if◌then◌else◌}
 use Rattle.std.specs.List.{find}
 use Rattle.std.specs.Str.{bytes_eq}
+use Rattle.std.proofs.Math.ListN.{get_or-map}
 use Rattle.std.proofs.lemmas.Bool.Decides.{nat_tests}
 use Rattle.std.proofs.lemmas.List.Elements.{All-cons, All-head, All-nil, All-tail, All-weaker}
 use Rattle.aq_base.specs.Checks.{all_checked, or_refuse, ◌>>=◌}
@@ -11,22 +12,22 @@ use Rattle.aq_prog.specs.declared.program.BitRegister.{BitRegister}
 use Rattle.aq_prog.specs.declared.program.Program.{Program}
 use Rattle.aq_prog.specs.declared.stmt.Guard.{Guard}
 use Rattle.aq_sets.specs.Tables.{table, at_position}
-use Rattle.aq_sets.specs.Sizes.{size_of, size_step}
+use Rattle.aq_sets.specs.Sizes.{Size, no_size, size_of, size_step}
 use Rattle.aq_sets.specs.Valid.{IsValidClaim, IsValidSets}
 use Rattle.aq_sets.specs.declared.sets.Case.{Case}
 use Rattle.aq_sets.specs.declared.sets.Cond.{Cond}
 use Rattle.aq_sets.specs.declared.sets.Expr.{Expr}
 use Rattle.aq_sets.specs.declared.sets.NamedClaim.{NamedClaim}
 use Rattle.aq_sets.specs.declared.sets.Sets.{Sets}
-use Rattle.aq_obligations.specs.Bound.{Checked, bit_of, bit_in, register_named, guard_on, bound_cond, bound_case, bound_claim, bound_claims, Asked, asked, AreShort, Gives, IsBoundCase}
-use Rattle.aq_obligations.specs.Qubits.{AreQubits}
+use Rattle.aq_obligations.specs.Bound.{Checked, bit_of, bit_in, register_named, guard_on, bound_cond, bound_case, bound_claim, bound_claims, Asked, asked, AreShort, Gives, AreQubits, IsBoundCase}
 use Rattle.aq_obligations.specs.declared.bound.BoundCase.{BoundCase}
 use Rattle.aq_obligations.specs.declared.bound.ClaimFault.{ClaimFault}
 use Rattle.aq_obligations.specs.declared.bound.ClaimFault.TheVariants as faults
-use Rattle.aq_obligations.proofs.QubitLaws.{at_size}
 
+-- what stands at a position among the qubits of sizes
 pub are_qubits : (exprs : List Expr) (numbers : List ℕ) → numbers ≡ map (λ s. s.qubits) (table size_step exprs) → AreQubits exprs numbers
-are_qubits exprs numbers e i = ap (λ (ns : List ℕ). at_position 0 ns i) e ∙ at_size exprs i
+unfolding size_of
+are_qubits exprs numbers e i = ap (λ (ns : List ℕ). at_position 0 ns i) e ∙ get_or-map (λ (s : Size). s.qubits) (table size_step exprs) i no_size
 
 -- ---- registers
 in_row : (first end : ℕ) (registers : List BitRegister) → AreInRow first end registers → (first ≤ end) × All (λ r. r.first + r.size ≤ end) registers

@@ -8,8 +8,10 @@ use Rattle.aq_sets.specs.declared.sets.Sets.{Sets}
 use Rattle.aq_obligations.specs.Bound.{Asked}
 use Rattle.aq_obligations.specs.Claims.{ClaimCase}
 use Rattle.aq_obligations.specs.Correct.{Annotated}
-use Rattle.aq_obligations.specs.Obligations.{Obligation}
+use Rattle.aq_obligations.specs.Obligations.{Meaning}
 use Rattle.aq_obligations.specs.declared.bound.BoundCase.{BoundCase}
+use Rattle.aq_obligations.specs.declared.bound.Obligation.{Obligation}
+use Rattle.aq_obligations.specs.declared.kind.Kind.TheVariants as kinds
 
 -- the case, with the vectors that its expression lists
 abbrev pub case_of : Sets → BoundCase → ClaimCase
@@ -33,15 +35,25 @@ annotated p s a = record {
   postcondition = cases_of s a.after;
 }
 
--- its one obligation, at its end
-abbrev pub obligation_at_end : Program → Sets → Asked → Obligation
-obligation_at_end p s a = record {
+-- what an obligation of the program means: its cases by the vectors that they list
+abbrev pub meaning_of : Program → Sets → Obligation → Meaning
+meaning_of p s o = record {
   qubits = p.qubits;
   bits = p.bits;
+  start = o.start;
+  assumed = cases_of s o.from;
+  given = o.given;
+  fragment = o.fragment;
+  goal = cases_of s o.goal.cases;
+  products = products_in s o.from ++ products_in s o.goal.cases;
+}
+
+-- the one obligation of a program without loops and claims inside, at its end
+abbrev pub obligation_at_end : Program → Asked → Obligation
+obligation_at_end p a = record {
   start = true;
-  assumed = cases_of s a.before;
+  from = a.before;
   given = None;
   fragment = p.body;
-  goal = cases_of s a.after;
-  products = products_in s a.before ++ products_in s a.after;
+  goal = record { kind = kinds.Post; line = 0; cases = a.after };
 }

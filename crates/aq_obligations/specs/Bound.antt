@@ -1,13 +1,17 @@
 -- Claims of a set file, with the names of their bits looked up in a program.
-use Rattle.std.specs.Prelude.{◌≡◌, ℕ, ◌+◌, ◌<◌, ◌≤◌, ◌==◌, Bool, ◌&&◌, List, [], ◌∷◌, All, length, Option, Some, None, Result, Ok, Err, nat_lt, if◌then◌else◌}
+use Rattle.std.specs.Prelude.{◌≡◌, ℕ, ◌+◌, ◌<◌, ◌≤◌, ◌==◌, Bool, ◌&&◌, List, All, length, Option, Some, None, Result, Ok, Err, nat_lt, IfSome, if◌then◌else◌}
 use Rattle.std.specs.List.{find}
 use Rattle.std.specs.Str.{bytes_eq}
 use Rattle.aq_base.specs.Checks.{CheckedBy, GivesUnless, all_checked, or_refuse, ◌>>=◌}
 use Rattle.aq_base.specs.Limits.{most_bits}
+use Rattle.aq_prog.specs.Cuts.{AreUncut}
+use Rattle.aq_prog.specs.Programs.{IsValidStmt}
 use Rattle.aq_prog.specs.declared.program.BitRegister.{BitRegister}
 use Rattle.aq_prog.specs.declared.program.Program.{Program}
 use Rattle.aq_prog.specs.declared.stmt.Guard.{Guard}
 use Rattle.aq_sets.specs.Sizes.{size_of}
+use Rattle.aq_sets.specs.Tables.{at_position}
+use Rattle.aq_sets.specs.declared.sets.Expr.{Expr}
 use Rattle.aq_sets.specs.declared.sets.Cond.{Cond}
 use Rattle.aq_sets.specs.declared.sets.Case.{Case}
 use Rattle.aq_sets.specs.declared.sets.NamedClaim.{NamedClaim}
@@ -15,6 +19,7 @@ use Rattle.aq_sets.specs.declared.sets.Sets.{Sets}
 use Rattle.aq_obligations.specs.declared.bound.AskedClaims.{AskedClaims}
 use Rattle.aq_obligations.specs.declared.bound.BoundCase.{BoundCase}
 use Rattle.aq_obligations.specs.declared.bound.ClaimFault.{ClaimFault}
+use Rattle.aq_obligations.specs.declared.bound.Obligation.{Obligation}
 use Rattle.aq_obligations.specs.declared.bound.ClaimFault.TheVariants as faults
 
 abbrev pub Checked : Type 0 → Type 0
@@ -82,8 +87,21 @@ Gives = GivesUnless faults.Memory
 
 -- ---- what is known of a case that was looked up
 
+-- the numbers are those of the qubits of the expressions at their positions
+abbrev pub AreQubits : List Expr → List ℕ → Type 0
+AreQubits exprs numbers = (i : ℕ) → at_position 0 numbers i ≡ (size_of exprs i).qubits
+
 -- its expression is there and is on the program's qubits, and its conditions are on bits of the program
 pub record IsBoundCase (p : Program) (s : Sets) (c : BoundCase) : Type 0 where
   pub there : c.set < length s.exprs
   pub qubits : (size_of s.exprs c.set).qubits ≡ p.qubits
   pub bits : All (λ g. g.bit < p.bits) c.when
+
+-- The obligation goes with the program and the sets: its cases do, its statements and the bit that is given are the program's,
+-- and no statement is a cut.
+pub record IsBoundObligation (p : Program) (s : Sets) (o : Obligation) : Type 0 where
+  pub from : All (IsBoundCase p s) o.from
+  pub given : IfSome o.given (λ g. g.bit < p.bits)
+  pub fragment : All (IsValidStmt p.qubits p.bits (length p.claims)) o.fragment
+  pub uncut : AreUncut o.fragment
+  pub goal : All (IsBoundCase p s) o.goal.cases

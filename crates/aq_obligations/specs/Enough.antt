@@ -1,6 +1,7 @@
 -- How many steps are enough for an obligation. It is a whole number without width.
-use Rattle.std.specs.Prelude.{ℕ, suc, ◌+◌, ◌*◌, ◌^◌, ◌==◌, List, [], ◌∷◌, ◌++◌, Option}
+use Rattle.std.specs.Prelude.{ℕ, suc, ◌+◌, ◌*◌, ◌^◌, ◌==◌, List, [], ◌∷◌, ◌++◌}
 use Rattle.std.specs.List.{sum, sum_by, count_by, list_any, flat_map, range_with_len}
+use Rattle.aq_prog.specs.declared.program.Program.{Program}
 use Rattle.aq_prog.specs.declared.stmt.Guard.{Guard}
 use Rattle.aq_prog.specs.declared.stmt.Stmt.{Stmt, fold-Stmt}
 use Rattle.aq_prog.specs.declared.stmt.Stmt.TheOpen.{Stmt-F}
@@ -8,6 +9,7 @@ use Rattle.aq_sets.specs.Sizes.{size_of, words}
 use Rattle.aq_sets.specs.declared.sets.Sets.{Sets}
 use Rattle.aq_obligations.specs.Worlds.{given_guards}
 use Rattle.aq_obligations.specs.declared.bound.BoundCase.{BoundCase}
+use Rattle.aq_obligations.specs.declared.bound.Obligation.{Obligation}
 
 -- the number of statements, inner ones included
 abbrev pub statements_step : Stmt-F ℕ → ℕ
@@ -51,24 +53,16 @@ guards_step (Stmt-F.Assume guard) = guard ∷ []
 abbrev pub guards : List Stmt → List Guard
 guards body = flat_map (fold-Stmt (List Guard) guards_step) body
 
--- What the number hangs on: an obligation by the positions of its sets' expressions, on so many qubits and bits.
-pub record Work : Type 0 where
-  pub qubits : ℕ
-  pub bits : ℕ
-  pub from : List BoundCase
-  pub given : Option Guard
-  pub fragment : List Stmt
-  pub goal : List BoundCase
-
 abbrev pub conditions : List BoundCase → List Guard
 conditions cases = flat_map (λ c. c.when) cases
 
-abbrev pub all_guards : Work → List Guard
-all_guards o = guards o.fragment ++ (given_guards o.given ++ (conditions o.from ++ conditions o.goal))
+-- the guards of the statements and what is given, and the conditions of all cases
+abbrev pub all_guards : Obligation → List Guard
+all_guards o = guards o.fragment ++ (given_guards o.given ++ (conditions o.from ++ conditions o.goal.cases))
 
--- the number of bits that a guard or a condition mentions
-abbrev pub mentioned_bits : Work → ℕ
-mentioned_bits o = count_by (λ bit. list_any (λ g. g.bit == bit) (all_guards o)) (range_with_len 0 o.bits)
+-- the number of the program's bits that a guard or a condition mentions
+abbrev pub mentioned_bits : Program → Obligation → ℕ
+mentioned_bits p o = count_by (λ bit. list_any (λ g. g.bit == bit) (all_guards o)) (range_with_len 0 p.bits)
 
 abbrev pub words_of : Sets → BoundCase → ℕ
 words_of s c = words (size_of s.exprs c.set).shape
@@ -79,10 +73,10 @@ weight_of s c = (size_of s.exprs c.set).nodes * words_of s c
 
 -- With M measurements and resets, U bits mentioned, W and V words of the assumption's and the goal's cases, L statements
 -- and one more, and X the weights of all cases: 8 * (2^(M+U) * W * 2^(n+1) * (L + V) + 2^(n+1) * X).
-unfoldable pub enough : Sets → Work → ℕ
-enough s o =
+unfoldable pub enough : Program → Sets → Obligation → ℕ
+enough p s o =
     let W = sum_by (words_of s) o.from in
-    let V = sum_by (words_of s) o.goal in
+    let V = sum_by (words_of s) o.goal.cases in
     let L = suc (statements o.fragment) in
-    let X = sum_by (weight_of s) o.from + sum_by (weight_of s) o.goal in
-    8 * (2 ^ (outcomes o.fragment + mentioned_bits o) * W * 2 ^ (suc o.qubits) * (L + V) + 2 ^ (suc o.qubits) * X)
+    let X = sum_by (weight_of s) o.from + sum_by (weight_of s) o.goal.cases in
+    8 * (2 ^ (outcomes o.fragment + mentioned_bits p o) * W * 2 ^ (suc p.qubits) * (L + V) + 2 ^ (suc p.qubits) * X)

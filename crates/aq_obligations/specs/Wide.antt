@@ -5,10 +5,10 @@ use Rattle.aq_ring.specs.Amplitudes.{FitsAmplitudeProduct}
 use Rattle.aq_prog.specs.Gates.{FitsGate}
 use Rattle.aq_prog.specs.Runs.{Played}
 use Rattle.aq_obligations.specs.Claims.{ClaimCase, are_met}
-use Rattle.aq_obligations.specs.Obligations.{Obligation, IsStart, run_of, IsWhole}
+use Rattle.aq_obligations.specs.Obligations.{Meaning, IsStart, run_of, IsWhole}
 
 -- a gate on some run from a state of the assumption, however far it goes, has a sum or a quotient by sqrt(2) that doesn't fit
-pub record WideGate (o : Obligation) : Type 0 where
+pub record WideGate (o : Meaning) : Type 0 where
   pub bits : List Bool
   pub vector : List Amplitude
   pub outcomes : List Bool
@@ -18,7 +18,7 @@ pub record WideGate (o : Obligation) : Type 0 where
   pub wide : FitsGate o.qubits step.gate step.before → ⊥
 
 -- an entry of some end times an entry of some goal vector for its bits doesn't fit
-pub record WideComparison (o : Obligation) : Type 0 where
+pub record WideComparison (o : Meaning) : Type 0 where
   pub bits : List Bool
   pub vector : List Amplitude
   pub outcomes : List Bool
@@ -36,11 +36,11 @@ pub record WideComparison (o : Obligation) : Type 0 where
   pub wide : FitsAmplitudeProduct left right → ⊥
 
 -- a product in a tensor or a power of one of its sets doesn't fit
-pub record WideSet (o : Obligation) : Type 0 where
+pub record WideSet (o : Meaning) : Type 0 where
   pub left : Amplitude
   pub right : Amplitude
   pub taken : Contains o.products (left, right)
   pub wide : FitsAmplitudeProduct left right → ⊥
 
-abbrev pub IsWide : Obligation → Type 0
+abbrev pub IsWide : Meaning → Type 0
 IsWide o = WideGate o ⊎ (WideComparison o ⊎ WideSet o)

@@ -14,7 +14,7 @@ use Rattle.aq_prog.specs.declared.stmt.Guard.{Guard}
 use Rattle.aq_prog.specs.declared.stmt.Stmt.{Stmt, fold-Stmt}
 use Rattle.aq_prog.specs.declared.stmt.Stmt.TheOpen.{Stmt-F}
 use Rattle.aq_obligations.specs.Claims.{ClaimCase, Holds}
-use Rattle.aq_obligations.specs.Obligations.{Obligation, Shown, run_of}
+use Rattle.aq_obligations.specs.Obligations.{Meaning, Shown, run_of}
 
 -- bits of which some are known
 abbrev pub Partial : Type 0
@@ -118,7 +118,7 @@ given_guards None = []
 given_guards (Some g) = g ∷ []
 
 -- the bits at the start, before any condition
-abbrev pub first_bits : Obligation → Partial
+abbrev pub first_bits : Meaning → Partial
 first_bits o = if o.start then replicate o.bits (Some false) else replicate o.bits None
 
 abbrev pub starting : ClaimCase → Option Partial → List World
@@ -126,21 +126,21 @@ starting c None = []
 starting c (Some bits) = record { case = c; start = bits; bits = bits; outcomes = []; vectors = c.vectors } ∷ []
 
 -- the world of each case whose conditions don't contradict each other, the given guard or the start
-abbrev pub start_worlds : Obligation → List World
+abbrev pub start_worlds : Meaning → List World
 start_worlds o = flat_map (λ c. starting c (fixing (c.when ++ given_guards o.given) (first_bits o))) o.assumed
 
 abbrev pub mentions : ℕ → ClaimCase → Bool
 mentions bit c = list_any (λ g. g.bit == bit) c.when
 
 -- the bits that the goal's conditions mention, in order
-abbrev pub mentioned : Obligation → List ℕ
+abbrev pub mentioned : Meaning → List ℕ
 mentioned o = filter (λ bit. list_any (mentions bit) o.goal) (tabulate o.bits (λ bit. bit))
 
 abbrev pub is_nought : World → Bool
 is_nought w = list_all is_zero_vector w.vectors
 
 -- the worlds in order, those left out whose every vector is zero
-abbrev pub worlds : Obligation → List World
+abbrev pub worlds : Meaning → List World
 worlds o = filter (λ w. not (is_nought w))
     (flat_map (in_worlds (map split (mentioned o))) (flat_map (in_worlds (map (spread o.qubits) o.fragment)) (start_worlds o)))
 
@@ -149,11 +149,11 @@ abbrev pub filled : Partial → List Bool
 filled bits = map (λ b. unwrap_or b false) bits
 
 -- a vector of a world doesn't escape the goal
-abbrev pub IsKept : Obligation → World → List Amplitude → Type 0
+abbrev pub IsKept : Meaning → World → List Amplitude → Type 0
 IsKept o w v = IsZeroVector v ⊎ Holds o.goal (filled w.bits) v
 
 -- The refutation: the first world that has a vector which escapes the goal, and in it the first such place.
-pub record IsRefutation (o : Obligation) (r : Shown) : Type 0 where
+pub record IsRefutation (o : Meaning) (r : Shown) : Type 0 where
   pub earlier : List World
   pub world : World
   pub later : List World

@@ -5,16 +5,15 @@ ghost use Rattle.std.specs.Str.{bytes_eq};
 ghost use Rattle.aq_base.specs.Checks.{all_checked};
 ghost use Rattle.aq_base.specs.Limits.{most_bits};
 ghost use Rattle.aq_prog.specs.Programs.{IsValidProgram};
+ghost use Rattle.aq_sets.specs.Tables.{at_position};
 ghost use Rattle.aq_sets.specs.Valid.{IsValidSets};
-ghost use Rattle.aq_obligations.specs.Qubits.{AreQubits};
-ghost use Rattle.aq_obligations.specs.Bound.{Gives, bit_of, bit_in, register_named, bound_cond, bound_case, bound_claim, claim_named, bound_claims, asked, AreShort, IsBoundCase};
+ghost use Rattle.aq_obligations.specs.Bound.{Gives, bit_of, bit_in, register_named, bound_cond, bound_case, bound_claim, claim_named, bound_claims, asked, AreShort, AreQubits, IsBoundCase};
 ghost use Rattle.aq_obligations.specs.declared.bound.ClaimFault.TheVariants as faults;
 
 use crate::bound::{AskedClaims, BoundCase, ClaimFault};
-use crate::qubits::{at_position, qubits_of_all};
 use aq_lex::Text;
 use aq_prog::{BitRegister, Guard, Program};
-use aq_sets::{Case, Cond, NamedClaim, Sets};
+use aq_sets::{Case, Cond, NamedClaim, Sets, qubits_of_all};
 use sqlite_items::Items;
 use std::alloc::{AllocError, Global};
 
@@ -111,6 +110,16 @@ fn guards_of(
     Ok(guards)
 }
 
+/// The number of qubits at a position, or 0 where there is none.
+fn qubits_at(qubits: &[u32], expr: u32) -> u32
+    ensures { result ≡ at_position 0 qubits.now expr }
+{
+    match qubits.get(expr as usize) {
+        Some(number) => *number,
+        None => 0,
+    }
+}
+
 /// A case of the claim with this name, from the numbers of qubits of all expressions. QubitsDiffer: it is on another number
 /// of qubits than the program. Then BitUnknown, condition by condition.
 #[tactic(auto, unfolding(crate::specs::Bound::bound_case))]
@@ -126,7 +135,7 @@ fn case_of(
     requires qubits { AreQubits sets.now.exprs qubits.now }
     ensures { Gives (λ c. c) result (bound_case program.now sets.now name.now case.now) }
 {
-    let has = at_position(qubits, case.set);
+    let has = qubits_at(qubits, case.set);
     if has != program.qubits {
         return Err(qubits_differ(alloc, name, has)?);
     }

@@ -1,3 +1,4 @@
 pub mod Vectors
 pub mod Wide
 pub mod Listing
+pub mod Replaying

@@ -6,3 +6,4 @@ pub mod FitsLaws
 pub mod StmtLaws
 pub mod EventProofs
 pub mod BlockLaws
+pub mod InsideLaws

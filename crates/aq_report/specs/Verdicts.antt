@@ -1,6 +1,6 @@
 -- When a verdict is justified.
 use Rattle.std.specs.Prelude.{◌≡◌, ℕ, ◌<◌}
-use Rattle.aq_obligations.specs.Obligations.{Obligation, Shown, IsTrueOf, IsCounterexample}
+use Rattle.aq_obligations.specs.Obligations.{Meaning, Shown, IsTrueOf, IsCounterexample}
 use Rattle.aq_obligations.specs.Wide.{IsWide}
 use Rattle.aq_obligations.specs.Worlds.{IsRefutation}
 use Rattle.aq_report.specs.declared.verdict.Refutation.{Refutation}
@@ -13,7 +13,7 @@ shown_by r = record { bits = r.bits; state = r.state.amps; outcomes = r.outcomes
 
 -- What is shown is the obligation's one refutation, over its qubits. So the run from the state shown, under the outcomes
 -- shown, ends in what is shown; and no nonzero multiple of that end is allowed by the goal.
-pub record IsRefutedBy (o : Obligation) (r : Refutation) : Type 0 where
+pub record IsRefutedBy (o : Meaning) (r : Refutation) : Type 0 where
   pub state_qubits : r.state.qubits ≡ o.qubits
   pub end_qubits : r.end.qubits ≡ o.qubits
   pub refutation : IsRefutation o (shown_by r)
@@ -21,7 +21,7 @@ pub record IsRefutedBy (o : Obligation) (r : Refutation) : Type 0 where
 
 -- A verdict under a limit of steps, where so many are enough. Steps are given up for only where the limit is below that
 -- number, and want of memory is the one free answer.
-abbrev pub IsJustified : ℕ → ℕ → Obligation → Verdict → Type 0
+abbrev pub IsJustified : ℕ → ℕ → Meaning → Verdict → Type 0
 IsJustified limit enough o verdict.Verified = IsTrueOf o
 IsJustified limit enough o (verdict.Refuted r) = IsRefutedBy o r
 IsJustified limit enough o (verdict.GaveUp why.Width) = IsWide o

@@ -1,5 +1,5 @@
 -- What the items of a set file before a place have given, and computations that add to it or stop at the first fault.
-use Rattle.std.specs.Prelude.{◌≡◌, ℕ, suc, Bool, List, [], ◌∷◌, ◌++◌, Option, Some, None, Result, Ok, Err, nat_lt, if◌then◌else◌}
+use Rattle.std.specs.Prelude.{ℕ, suc, List, [], ◌∷◌, ◌++◌, Option, Some, None, Result, Ok, nat_lt, if◌then◌else◌}
 use Rattle.std.specs.Str.{bytes_eq}
 use Rattle.aq_base.specs.Checks.{CheckedBy, GivesUnless, refuse_if, ◌>>◌}
 use Rattle.aq_base.specs.Limits.{most_nodes}

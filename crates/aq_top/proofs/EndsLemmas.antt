@@ -9,8 +9,8 @@ use Rattle.aq_world.specs.Sinks.{SinkMeaning}
 use Rattle.aq_world.specs.declared.sink.SinkFault.{SinkFault}
 use Rattle.aq_world.specs.declared.sink.SinkFault.TheVariants as fault
 use Rattle.aq_obligations.specs.Correct.{IsCorrect}
-use Rattle.aq_obligations.specs.Obligations.{Obligation, IsTrueOf}
-use Rattle.aq_obligations.proofs.GatesOnlyProofs.{gates_only_laws}
+use Rattle.aq_obligations.specs.Obligations.{Meaning, IsTrueOf}
+use Rattle.aq_correct.proofs.GatesOnlyProofs.{gates_only_laws}
 use Rattle.aq_obligations.specs.Bound.{Asked}
 use Rattle.aq_obligations.specs.declared.bound.ClaimFault.{ClaimFault}
 use Rattle.aq_report.specs.Refusals.{refusal_text}
@@ -136,7 +136,7 @@ good_verdict verdict.Verified e = refl
 good_verdict (verdict.Refuted r) e = cc
 good_verdict (verdict.GaveUp w) e = cc
 
-true_of : (limit enough : ℕ) (o : Obligation) (v : Verdict) → status.Good ≡ verdict_status v → IsJustified limit enough o v → IsTrueOf o
+true_of : (limit enough : ℕ) (o : Meaning) (v : Verdict) → status.Good ≡ verdict_status v → IsJustified limit enough o v → IsTrueOf o
 true_of limit enough o v e j = subst (IsJustified limit enough o) (good_verdict v e) j
 
 same_task : (s t : Task) → s.program ≡ t.program → s.sets ≡ t.sets → s.claims ≡ t.claims → s ≡ t

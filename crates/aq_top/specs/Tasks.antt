@@ -4,11 +4,11 @@ use Rattle.aq_prog.specs.declared.program.Program.{Program}
 use Rattle.aq_set_read.specs.Texts.{SaysSets}
 use Rattle.aq_sets.specs.declared.sets.Sets.{Sets}
 use Rattle.aq_elab.specs.Texts.{SaysProgram}
-use Rattle.aq_obligations.specs.Asking.{annotated, obligation_at_end}
+use Rattle.aq_obligations.specs.Asking.{annotated, meaning_of, obligation_at_end}
 use Rattle.aq_obligations.specs.Bound.{Checked, Asked, asked}
 use Rattle.aq_obligations.specs.Correct.{Annotated}
-use Rattle.aq_obligations.specs.Obligations.{Obligation}
-use Rattle.aq_judge.specs.Owed.{steps_of}
+use Rattle.aq_obligations.specs.Obligations.{Meaning}
+use Rattle.aq_obligations.specs.Enough.{enough}
 
 -- the claims that are asked of a program, by name
 abbrev pub claims_asked : Program → Sets → Checked Asked
@@ -27,12 +27,12 @@ pub record IsTask (program sets : List ℕ) (t : Task) : Type 0 where
   pub claims_are : claims_asked t.program t.sets ≡ Ok t.claims
 
 -- what the task owes, where its program has gates alone
-abbrev pub obligation_of : Task → Obligation
-obligation_of t = obligation_at_end t.program t.sets t.claims
+abbrev pub obligation_of : Task → Meaning
+obligation_of t = meaning_of t.program t.sets (obligation_at_end t.program t.claims)
 
 -- how many steps are enough for it
 abbrev pub enough_for : Task → ℕ
-enough_for t = steps_of t.program t.sets t.claims.before t.claims.after
+enough_for t = enough t.program t.sets (obligation_at_end t.program t.claims)
 
 -- the annotated program of the task
 abbrev pub program_of : Task → Annotated

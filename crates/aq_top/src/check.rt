@@ -27,9 +27,9 @@ use crate::read::{load_program, load_sets};
 use crate::say::{say_refusal, status_after};
 use crate::status::Status;
 use aq_base::MOST_STEPS;
-use aq_obligations::{AskedClaims, ClaimFault, Kind, ask};
+use aq_obligations::{AskedClaims, ClaimFault, Kind, ask, obligation_at_end};
 use aq_prog::Program;
-use aq_report::{Refusal, Verdict, print_summary, print_verdict};
+use aq_report::{Refusal, Verdict, Why, print_summary, print_verdict};
 use aq_sets::Sets;
 use aq_world::{Shelf, Sink, SinkFault};
 use std::alloc::Global;
@@ -115,23 +115,24 @@ fn load<'a, S: Shelf>(
 }
 
 /// Judges what was read. The verdict is justified; it is given up for memory where that is wanting.
-fn judge(alloc: Global, loaded: &Loaded) -> Verdict
-    requires gates { are_gates loaded.now.program.body ≡ true }
-    requires program { IsValidProgram loaded.now.program }
-    requires sets { IsValidSets loaded.now.sets }
-    requires before { All (IsBoundCase loaded.now.program loaded.now.sets) loaded.now.claims.before }
-    requires after { All (IsBoundCase loaded.now.program loaded.now.sets) loaded.now.claims.after }
-    ensures { IsJustified most_steps (enough_for (task_of loaded.now.program loaded.now.sets loaded.now.claims))
-        (obligation_of (task_of loaded.now.program loaded.now.sets loaded.now.claims)) result }
+fn judge(alloc: Global, loaded: Loaded) -> Verdict
+    requires gates { are_gates loaded.program.body ≡ true }
+    requires program { IsValidProgram loaded.program }
+    requires sets { IsValidSets loaded.sets }
+    requires before { All (IsBoundCase loaded.program loaded.sets) loaded.claims.before }
+    requires after { All (IsBoundCase loaded.program loaded.sets) loaded.claims.after }
+    ensures { IsJustified most_steps (enough_for (task_of loaded.program loaded.sets loaded.claims))
+        (obligation_of (task_of loaded.program loaded.sets loaded.claims)) result }
 {
-    aq_judge::judge(
-        alloc,
-        &loaded.program,
-        &loaded.sets,
-        loaded.claims.before.as_slice(),
-        loaded.claims.after.as_slice(),
-        MOST_STEPS,
-    )
+    let Loaded {
+        program,
+        sets,
+        claims,
+    } = loaded;
+    let Ok(obligation) = obligation_at_end(alloc, &program, claims) else {
+        return Verdict::GaveUp(Why::Memory);
+    };
+    aq_judge::judge(alloc, &program, &sets, &obligation, MOST_STEPS)
 }
 
 fn verdict_status(verdict: &Verdict) -> Status
@@ -186,7 +187,7 @@ pub(crate) fn check<S: Shelf, K: Sink>(
 {
     match load(alloc, words, shelf) {
         Ok(loaded) => {
-            let verdict = judge(alloc, &loaded);
+            let verdict = judge(alloc, loaded);
             say_report(out, &verdict)
         }
         Err(refusal) => say_refusal(out, &refusal),

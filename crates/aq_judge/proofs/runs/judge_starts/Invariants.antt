@@ -5,4 +5,4 @@ use Rattle.aq_judge.proofs.runs.judge_starts.Given as goal
 
 -- the runs before are kept
 abbrev pub invariant-loop-state : goal.invariant-loop-state
-invariant-loop-state l = AreKept l.program.qubits (gates_in l.program.body) (amps_of l.allowed) (amps_of (take l.state-index l.starts))
+invariant-loop-state l = AreKept l.program.qubits (gates_in l.body) (amps_of l.allowed) (amps_of (take l.state-index l.starts))

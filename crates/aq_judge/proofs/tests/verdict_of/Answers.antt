@@ -1,7 +1,7 @@
-use Rattle.std.proofs.Common.{List, All, sym, subst}
-use Rattle.aq_obligations.specs.declared.bound.BoundCase.{BoundCase}
-use Rattle.aq_judge.specs.Examples.{IsSmallCase}
+use Rattle.std.proofs.Common.{sym, ap, subst, true, ◌∙◌}
+use Rattle.aq_judge.specs.Bodies.{are_gates}
 use Rattle.aq_judge.proofs.ExampleLaws.{bound_cases}
+use Rattle.aq_judge.proofs.StmtLaws.{gates_uncut}
 use Rattle.aq_judge.proofs.tests.verdict_of.Goals as goal
 
 pub judge-requires-clause-asked : goal.judge-requires-clause-asked
@@ -9,10 +9,14 @@ judge-requires-clause-asked c =
     let p = c.in_ok-program.program in
     let s = c.in_ok-sets.sets in
     let sizes = c.in_ok-program.ensures.sizes in
+    let made = c.in_ok-obligation.ensures in
     record {
       program = c.in_ok-program.ensures.valid;
-      gates = c.in_ok-program.ensures.gates;
       sets = c.in_ok-sets.ensures.valid;
-      cases_before = bound_cases c.args.amp p s _ c.in_ok-sets.ensures.exprs sizes.0 sizes.1 (subst (λ (l : List BoundCase). All IsSmallCase l) (sym c.as_slice.ensures) c.in_ok-before.ensures);
-      cases_after = bound_cases c.args.amp p s _ c.in_ok-sets.ensures.exprs sizes.0 sizes.1 (subst (λ (l : List BoundCase). All IsSmallCase l) (sym c.as_slice-2.ensures) c.in_ok-after.ensures);
+      bound = made.bound s c.in_ok-program.ensures.valid (gates_uncut p.body c.in_ok-program.ensures.gates)
+          (bound_cases c.args.amp p s _ c.in_ok-sets.ensures.exprs sizes.0 sizes.1 c.in_ok-before.ensures)
+          (bound_cases c.args.amp p s _ c.in_ok-sets.ensures.exprs sizes.0 sizes.1 c.in_ok-after.ensures);
+      gates = ap (λ o. are_gates o.fragment) made.value ∙ c.in_ok-program.ensures.gates;
+      start = ap (λ o. o.start) made.value;
+      given = ap (λ o. o.given) made.value;
     }

@@ -1,5 +1,5 @@
-use Rattle.aq_judge.specs.Owed.{steps_of}
+use Rattle.aq_obligations.specs.Enough.{enough}
 use Rattle.aq_judge.proofs.verdict.judge.Goals as goal
 
 pub returns-in-Ok-try_judge-clause-justified : goal.returns-in-Ok-try_judge-clause-justified
-returns-in-Ok-try_judge-clause-justified c = c.in-Ok-try_judge.ensures.ok c.args.limit (steps_of c.args.program.now c.args.sets.now c.args.before.now c.args.after.now)
+returns-in-Ok-try_judge-clause-justified c = c.in-Ok-try_judge.ensures.ok c.args.limit (enough c.args.program.now c.args.sets.now c.args.obligation.now)

@@ -1,0 +1,4 @@
+pub mod WorldLaws
+pub mod OwingLaws
+pub mod Uncut
+pub mod GatesOnly

@@ -1,0 +1,14 @@
+use Rattle.std.proofs.Common.{◌≡◌, ◌<◌, ◌+◌, List, drop, false, length}
+use Rattle.std.specs.List.{list_any}
+use Rattle.aq_prog.specs.Events.{has_loop}
+use Rattle.aq_plain.specs.Replaying.{ArePlayable, state_of}
+use Rattle.aq_plain.proofs.PlayLaws.{LeadsOn}
+use Rattle.aq_plain.proofs.player.+playing.Given as goal
+
+-- what the statements that are left come to from here, all come to from the start
+abbrev pub invariant-play_all-loop-stmt : goal.invariant-play_all-loop-stmt
+invariant-play_all-loop-stmt l = record {
+  qubits : l.player.vector.qubits ≡ l.fn.player.vector.qubits;
+  bits : length l.player.bits ≡ length l.fn.player.bits;
+  leads : LeadsOn l.fn.player.vector.qubits l.body (state_of l.fn.player l.fn.outcomes) (drop l.stmt-index l.body) (state_of l.player l.left);
+}

@@ -1,0 +1,11 @@
+use Rattle.std.proofs.Common.{◌≡◌, ℕ, Bool, true, false, List, [], ◌∷◌, sym, ap, ◌∙◌, subst, refl, arith}
+use Rattle.std.proofs.lemmas.Result.{err_from_is_err_and}
+use Rattle.aq_plain.specs.Replaying.{state_of}
+use Rattle.aq_plain.proofs.PlayLaws.{refused_measured}
+use Rattle.aq_plain.proofs.player.measure.Goals as goal
+
+pub returns-in_err-outcome-clause-halted : goal.returns-in_err-outcome-clause-halted
+returns-in_err-outcome-clause-halted c =
+    let p = err_from_is_err_and c.from_residual.result c.from_residual.ensures.1 in
+    let s = state_of c.args.player.now c.args.outcomes.now in
+    rw (p.1, p.2) (refused_measured c.args.player.now.vector.qubits c.args.qubit c.args.bit s c.in_err-outcome.field-0.0 c.in_err-outcome.ensures.refused)
