@@ -26,9 +26,9 @@ pub fn run_honest(
     ensures all_verified_implies_correct { result ≡ Status.Good
         → ToldIsCorrect (Some (first_of shelf.old.files)) (command_asked (map string_bytes words.now)) }
     // The counts of faults stay 0, so that no end has a failed read or write for its cause.
-    ensures other_ends { Ends ⟦<HonestSink as Sink>⟧.meaning out.old out.new (RunEnd (Some (first_of shelf.old.files))
-        (ReadFailedOf ⟦<HonestShelf as Shelf>⟧.meaning shelf.old shelf.new) (command_asked (map string_bytes words.now)))
-        result }
+    ensures other_ends { Ends ⟦<HonestSink as Sink>⟧.meaning out.old out.new
+        (RunEnd (Some (first_of shelf.old.files)) (ReadFailedOf ⟦<HonestShelf as Shelf>⟧.meaning shelf.old shelf.new)
+        (command_asked (map string_bytes words.now))) result }
     ensures usage_has_its_cause { result ≡ Status.Usage → command_asked (map string_bytes words.now) ≡ None }
     ensures shelf_stays { first_of shelf.new.files ≡ first_of shelf.old.files }
 {

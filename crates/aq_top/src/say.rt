@@ -11,7 +11,9 @@ use aq_report::{Refusal, print_refusal};
 use aq_world::{Sink, SinkFault, put_text};
 
 const USAGE: &[u8] =
-    b"usage: autoq check PROG SETS [--pre NAME] [--post NAME] [--steps N] [--cert FILE]\n       autoq recheck PROG SETS CERT [--pre NAME] [--post NAME] [--steps N]\n       autoq replay PROG SETS --state NAME [--outcomes TEXT]\n       autoq trial N\n";
+    b"usage: autoq check PROG SETS [--pre NAME] [--post NAME] [--steps N] [--cert FILE]\n       \
+    autoq recheck PROG SETS CERT [--pre NAME] [--post NAME] [--steps N]\n       \
+    autoq replay PROG SETS --state NAME [--outcomes TEXT]\n       autoq trial N\n";
 
 /// The status after a call that prints a whole text.
 pub(crate) fn status_after(printed: Result<(), SinkFault>, wanted: Status) -> Status
