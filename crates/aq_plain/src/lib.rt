@@ -7,7 +7,6 @@ mod built;
 mod listing;
 #[cfg(test)]
 mod listing_tests;
-mod loops;
 mod parts;
 mod places;
 mod player;
