@@ -1,5 +1,5 @@
 -- What is found of the runs justifies the verdict.
-use Rattle.std.proofs.Common.{◌≡◌, ℕ, true, List, Contains, refl, sym, subst, inl, inr}
+use Rattle.std.proofs.Common.{◌≡◌, ℕ, List, Contains, sym, subst, inl, inr}
 use Rattle.std.proofs.lemmas.List.Elements.{Contains-append_left, Contains-append_right}
 use Rattle.aq_ring.specs.Fractions.{Amplitude}
 use Rattle.aq_prog.specs.declared.gate.Gate.{Gate}

@@ -15,4 +15,4 @@ mod tests;
 mod verdict;
 
 pub use body::are_gates;
-pub use verdict::judge;
+pub use verdict::{judge, judge_by_sizes};

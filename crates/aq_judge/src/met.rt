@@ -1,5 +1,6 @@
 //! The states that cases list whose conditions hold where every bit is 0.
 ghost use Rattle.std.specs.Prelude.{◌≡◌, ◌<◌, ◌++◌, All, IfErr, IfOk, OnOk, length};
+ghost use Rattle.aq_sets.specs.Caps.{capped_sizes};
 ghost use Rattle.aq_sets.specs.Valid.{IsValidSets};
 ghost use Rattle.aq_sets.specs.Vectors.{products_of};
 ghost use Rattle.aq_obligations.specs.Asking.{products_in};
@@ -8,9 +9,9 @@ ghost use Rattle.aq_judge.specs.Met.{asks_for_zeros, case_states, met_in, met_st
 
 use crate::stop::Stop;
 use aq_obligations::BoundCase;
-use aq_plain::{Vector, VectorStop, vectors};
+use aq_plain::{Vector, VectorStop, vectors_by_sizes};
 use aq_prog::Guard;
-use aq_sets::Sets;
+use aq_sets::{Sets, Size};
 use sqlite_items::Items;
 use std::alloc::Global;
 
@@ -22,13 +23,19 @@ fn asks_for_zeros(guards: &[Guard]) -> bool
 }
 
 /// The states that the case lists. More of them than a `u64` counts are too many for any memory.
-fn case_states(alloc: Global, sets: &Sets, case: &BoundCase) -> Result<Items<Vector>, Stop>
+fn case_states(
+    alloc: Global,
+    sets: &Sets,
+    sizes: &[Size],
+    case: &BoundCase,
+) -> Result<Items<Vector>, Stop>
     requires sets { IsValidSets sets.now }
+    requires told { sizes.now ≡ capped_sizes sets.now.exprs }
     requires there { case.now.set < length sets.now.exprs }
     ensures ok { IfOk result (λ list. list ≡ case_states sets.now case.now) }
     ensures err { IfErr result (λ e. StopsFor (HasWide (products_of sets.now.exprs case.now.set)) e) }
 {
-    match vectors(alloc, sets, case.set, u64::MAX) {
+    match vectors_by_sizes(alloc, sets, sizes, case.set, u64::MAX) {
         Ok(list) => Ok(list),
         Err(VectorStop::Wide { .. }) => Err(Stop::Width),
         Err(VectorStop::TooMany) => Err(Stop::Memory),
@@ -40,10 +47,12 @@ fn case_states(alloc: Global, sets: &Sets, case: &BoundCase) -> Result<Items<Vec
 fn push_met(
     alloc: Global,
     sets: &Sets,
+    sizes: &[Size],
     case: &BoundCase,
     list: &mut Items<Vector>,
 ) -> Result<(), Stop>
     requires sets { IsValidSets sets.now }
+    requires told { sizes.now ≡ capped_sizes sets.now.exprs }
     requires there { case.now.set < length sets.now.exprs }
     ensures ok { OnOk result (list.new ≡ list.old ++ met_in sets.now case.now) }
     ensures err { IfErr result (λ e. StopsFor (HasWide (products_of sets.now.exprs case.now.set)) e) }
@@ -51,7 +60,7 @@ fn push_met(
     if !asks_for_zeros(case.when.as_slice()) {
         return Ok(());
     }
-    let more = case_states(alloc, sets, case)?;
+    let more = case_states(alloc, sets, sizes, case)?;
     list.append(more)?;
     Ok(())
 }
@@ -60,16 +69,18 @@ fn push_met(
 pub(crate) fn met_states(
     alloc: Global,
     sets: &Sets,
+    sizes: &[Size],
     cases: &[BoundCase],
 ) -> Result<Items<Vector>, Stop>
     requires sets { IsValidSets sets.now }
+    requires told { sizes.now ≡ capped_sizes sets.now.exprs }
     requires there { All (λ c. c.set < length sets.now.exprs) cases.now }
     ensures ok { IfOk result (λ list. list ≡ met_states sets.now cases.now) }
     ensures err { IfErr result (λ e. StopsFor (HasWide (products_in sets.now cases.now)) e) }
 {
     let mut list = Items::new(alloc);
     for case in cases {
-        push_met(alloc, sets, case, &mut list)?;
+        push_met(alloc, sets, sizes, case, &mut list)?;
     }
     Ok(list)
 }

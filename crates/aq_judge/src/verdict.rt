@@ -1,5 +1,6 @@
 //! The judge.
 ghost use Rattle.std.specs.Prelude.{◌≡◌, ◌≤◌, ◌<◌, ◌⊎◌, ℕ, IfErr, IfOk};
+ghost use Rattle.aq_sets.specs.Caps.{capped_sizes};
 ghost use Rattle.aq_obligations.specs.Asking.{meaning_of};
 ghost use Rattle.aq_obligations.specs.Enough.{enough};
 ghost use Rattle.aq_obligations.specs.Wide.{IsWide};
@@ -15,7 +16,7 @@ use crate::stop::Stop;
 use aq_obligations::{Obligation, enough_steps};
 use aq_prog::Program;
 use aq_report::{Verdict, Why};
-use aq_sets::Sets;
+use aq_sets::{Sets, Size, sizes_of};
 use std::alloc::Global;
 
 /// Judges the obligation, however many steps that takes.
@@ -23,14 +24,16 @@ fn try_judge(
     alloc: Global,
     program: &Program,
     sets: &Sets,
+    sizes: &[Size],
     obligation: &Obligation,
 ) -> Result<Verdict, Stop>
-    requires { CanBeJudged program.now sets.now obligation.now }
+    requires asked { CanBeJudged program.now sets.now obligation.now }
+    requires told { sizes.now ≡ capped_sizes sets.now.exprs }
     ensures ok { IfOk result (λ v. (limit enough : ℕ) → IsJustified limit enough (meaning_of program.now sets.now obligation.now) v) }
     ensures err { IfErr result (λ e. StopsFor (IsWide (meaning_of program.now sets.now obligation.now)) e) }
 {
-    let allowed = met_states(alloc, sets, obligation.goal.cases.as_slice())?;
-    let starts = met_states(alloc, sets, obligation.from.as_slice())?;
+    let allowed = met_states(alloc, sets, sizes, obligation.goal.cases.as_slice())?;
+    let starts = met_states(alloc, sets, sizes, obligation.from.as_slice())?;
     let body = obligation.fragment.as_slice();
     let verdict = judge_starts(alloc, program, body, starts.as_slice(), allowed.as_slice())?;
     Ok(verdict)
@@ -55,13 +58,32 @@ pub fn judge(
     ensures justified { IsJustified limit (enough program.now sets.now obligation.now) (meaning_of program.now sets.now obligation.now) result }
     ensures steps { limit < enough program.now sets.now obligation.now → (result ≡ verdict.GaveUp why.Steps) ⊎ (result ≡ verdict.GaveUp why.Memory) }
 {
-    let Ok(enough) = enough_steps(alloc, program, sets, obligation) else {
+    let Ok(sizes) = sizes_of(alloc, sets) else {
         return Verdict::GaveUp(Why::Memory);
     };
+    judge_by_sizes(alloc, program, sets, sizes.as_slice(), obligation, limit)
+}
+
+/// The same, where the sizes of all expressions are told: for who has several obligations judged.
+pub fn judge_by_sizes(
+    alloc: Global,
+    program: &Program,
+    sets: &Sets,
+    sizes: &[Size],
+    obligation: &Obligation,
+    limit: u64,
+) -> Verdict
+    requires asked { CanBeJudged program.now sets.now obligation.now }
+    requires told { sizes.now ≡ capped_sizes sets.now.exprs }
+    requires limit { limit ≤ 1000000000 }
+    ensures justified { IsJustified limit (enough program.now sets.now obligation.now) (meaning_of program.now sets.now obligation.now) result }
+    ensures steps { limit < enough program.now sets.now obligation.now → (result ≡ verdict.GaveUp why.Steps) ⊎ (result ≡ verdict.GaveUp why.Memory) }
+{
+    let enough = enough_steps(program, sets, sizes, obligation);
     if u128::from(limit) < enough {
         return Verdict::GaveUp(Why::Steps);
     }
-    match try_judge(alloc, program, sets, obligation) {
+    match try_judge(alloc, program, sets, sizes, obligation) {
         Ok(verdict) => verdict,
         Err(Stop::Width) => Verdict::GaveUp(Why::Width),
         Err(Stop::Memory) => Verdict::GaveUp(Why::Memory),

@@ -1,8 +1,7 @@
 //! How many steps are enough for an obligation, told up to 2^64.
-ghost use Rattle.std.specs.Prelude.{◌≡◌, ◌+◌, ◌^◌, ◌<◌, ◌||◌, ◌*◌, ◌≤◌, suc, ℕ, if◌then◌else◌, All, IfOk, length};
+ghost use Rattle.std.specs.Prelude.{◌≡◌, ◌+◌, ◌^◌, ◌<◌, ◌||◌, ◌*◌, ◌≤◌, suc, ℕ, if◌then◌else◌, All, length};
 ghost use Rattle.std.specs.List.{sum_by, count_by, range_with_len};
 ghost use Rattle.aq_sets.specs.declared.sets.Sets.{Sets as SetsValue};
-ghost use Rattle.aq_sets.specs.Valid.{IsValidSets};
 ghost use Rattle.aq_sets.specs.Caps.{capped, capped_sizes};
 ghost use Rattle.aq_prog.specs.Programs.{IsValidProgram};
 ghost use Rattle.aq_obligations.specs.Bound.{IsBoundObligation};
@@ -12,8 +11,7 @@ ghost use Rattle.aq_obligations.specs.Worlds.{given_guards};
 
 use crate::bound::{BoundCase, Obligation};
 use aq_prog::{Guard, Program, Stmt};
-use aq_sets::{Sets, Size, capped_product, capped_sum, sizes_of};
-use std::alloc::{AllocError, Global};
+use aq_sets::{Sets, Size, capped_product, capped_sum};
 
 /// The statements, inner ones included.
 fn statements_in(body: &[Stmt]) -> u128
@@ -218,20 +216,13 @@ fn steps_by(
     capped_product(8, capped_sum(runs, builds))
 }
 
-/// How many steps are enough to judge an obligation of the program, up to 2^64. Fails only for want of memory.
-pub fn enough_steps(
-    alloc: Global,
-    program: &Program,
-    sets: &Sets,
-    obligation: &Obligation,
-) -> Result<u128, AllocError>
+/// How many steps are enough to judge an obligation of the program, up to 2^64, by the sizes of all expressions.
+pub fn enough_steps(program: &Program, sets: &Sets, sizes: &[Size], obligation: &Obligation) -> u128
     requires program { IsValidProgram program.now }
-    requires sets { IsValidSets sets.now }
+    requires told { sizes.now ≡ capped_sizes sets.now.exprs }
     requires bound { IsBoundObligation program.now sets.now obligation.now }
-    ensures { IfOk result (λ n. n ≡ capped (enough program.now sets.now obligation.now)) }
+    ensures { result ≡ capped (enough program.now sets.now obligation.now) }
 {
-    let list = sizes_of(alloc, sets)?;
-    let sizes = list.as_slice();
     let from = obligation.from.as_slice();
     let allowed = obligation.goal.cases.as_slice();
     let fragment = obligation.fragment.as_slice();
@@ -241,5 +232,5 @@ pub fn enough_steps(
     let starts = words_in(sizes, from);
     let goal = words_in(sizes, allowed);
     let weights = capped_sum(weights_in(sizes, from), weights_in(sizes, allowed));
-    Ok(steps_by(splits, starts, program.qubits, statements, goal, weights))
+    steps_by(splits, starts, program.qubits, statements, goal, weights)
 }

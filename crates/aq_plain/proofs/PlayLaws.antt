@@ -1,28 +1,32 @@
 -- How the statements of a run follow one another, as far as they are played.
-use Rattle.std.proofs.Common.{◌≡◌, ℕ, zero, suc, ◌+◌, ◌<◌, Bool, true, false, cond, ◌||◌, List, [], ◌∷◌, ◌++◌, map, length, All, drop, Option, Some, None, refl, ap, sym, ◌∙◌, subst, append_assoc, append-nil, arith}
+use Rattle.std.proofs.Common.{◌≡◌, ℕ, zero, suc, ◌+◌, ◌<◌, ◌≤◌, Bool, true, false, cond, ◌||◌, List, [], ◌∷◌, ◌++◌, map, length, All, drop, Option, Some, None, refl, ap, ap₂, sym, ◌∙◌, subst, append_assoc, append-nil, arith, get_or, drop-cons, add-one}
+use Rattle.std.specs.Prelude.{Result, Ok, Err, IfOk, IfErr}
 use Rattle.std.specs.List.{list_any, AllByRecursion}
 use Rattle.std.proofs.lemmas.List.Elements.{All-from_recursion, recursion_from_All, All-append, All-nil, All-cons}
 use Rattle.aq_ring.specs.Fractions.{Amplitude}
 use Rattle.aq_ring.specs.Vectors.{IsZeroVector}
-use Rattle.aq_prog.specs.Events.{Event, Plays, Leaves, Happens, if_ended, events_in, outcome_event, events_step, events_at, events, loop_step, has_loop, IsGood, AreGood, IsFirst, outcomes_among}
+use Rattle.aq_prog.specs.Cuts.{loop_step, has_loop}
+use Rattle.aq_prog.specs.Events.{Event, Plays, Leaves, Happens, if_ended, events_in, outcome_event, events_step, events_at, events, IsGood, AreGood, IsFirst, outcomes_among, HasLeft}
 use Rattle.aq_prog.specs.Gates.{apply_gate, project, flip_gate, FitsGate, IsValidGate, IsEntry, entry_at}
 use Rattle.aq_prog.specs.Programs.{IsValidLevel, IsValidStmt}
 use Rattle.aq_prog.specs.Runs.{State, Run, How, Passed, Played, Meaning, ended, stopped, then_go, going_on, joined, has_bit, with_bit, flipped, measured, was_reset, played_gate, passing, meaning, meaning_step, run}
 use Rattle.aq_prog.specs.declared.gate.Entry.{Entry}
 use Rattle.aq_prog.specs.declared.gate.Gate.{Gate}
 use Rattle.aq_prog.specs.declared.stmt.Guard.{Guard}
-use Rattle.aq_prog.specs.declared.stmt.Stmt.{Stmt}
+use Rattle.aq_prog.specs.declared.stmt.Stmt.{Stmt, fold-Stmt}
 use Rattle.aq_prog.specs.declared.stmt.Stmt.TheVariants as stmt
 use Rattle.aq_prog.specs.declared.stmt.Stmt.TheOpen.{Stmt-F}
 use Rattle.aq_prog.specs.declared.stmt.Stmt.TheFolds.{every_here-Stmt}
 use Rattle.aq_prog.specs.declared.stmt.Stmt.TheViews.{roll-Stmt, out-roll-Stmt}
 use Rattle.aq_prog.proofs.StmtLaws.{fold-gate, fold-measure, fold-reset, fold-if, fold-while, fold-assert, fold-assume, para-gate, para-measure, para-reset, para-if, para-assert, para-assume}
+use Rattle.aq_prog.proofs.CutLaws.{branch_loops}
 use Rattle.aq_prog.proofs.InsideLaws.{inside_if}
 use Rattle.aq_plain.proofs.ValidLaws.{valid_alone}
 use Rattle.aq_plain.specs.Wide.{IsFirstWide}
-use Rattle.aq_plain.specs.Replaying.{ArePlayable, IsPlayableStmt, MeetsWide, IsPlayed, MeetsZero, IsStopped, HaltsBy, IsTaken, IsDead, Refuses, IsIn, IsMeasured, HaltsMeasured, IsReset, HaltsReset, PlaysStmt, HaltsStmt, PlaysAll, HaltsAll}
+use Rattle.aq_plain.specs.Replaying.{ArePlayable, IsPlayableStmt, MeetsWide, IsPlayed, MeetsZero, IsStopped, HaltsBy, IsTaken, IsDead, Refuses, IsIn, IsMeasured, HaltsMeasured, IsReset, HaltsReset, PlaysStmt, HaltsStmt, PlaysAll, HaltsAll, Replays, start_of, stop_of}
 use Rattle.aq_plain.specs.declared.player.Halt.{Halt}
 use Rattle.aq_plain.specs.declared.player.Halt.TheVariants as halt
+use Rattle.aq_plain.specs.declared.replay_stop.ReplayStop.{ReplayStop}
 use Rattle.aq_plain.specs.declared.row.WideSum.{WideSum}
 
 -- ---- lists of events
@@ -194,10 +198,6 @@ branch_valid n m s g when_true when_false e p =
     let inside = inside_if (IsValidLevel n m p.claims) g when_true when_false (subst (IsValidStmt n m p.claims) e p.valid) in
     (record { claims = p.claims; valid = All-from_recursion _ when_true inside.1 }, record { claims = p.claims; valid = All-from_recursion _ when_false inside.2 })
 
-any_map : (body : List Stmt) → list_any (λ (b : Bool). b) (map has_loop body) ≡ list_any has_loop body
-any_map [] = refl
-any_map (s ∷ body) = ap (λ b. has_loop s || b) (any_map body)
-
 neither : (a b : Bool) → (a || b) ≡ false → (a ≡ false) × (b ≡ false)
 neither true b e = cc
 neither false b e = (refl, e)
@@ -205,9 +205,7 @@ neither false b e = (refl, e)
 pub branch_free : (s : Stmt) (g : Guard) (when_true when_false : List Stmt) → s ≡ stmt.If g when_true when_false → has_loop s ≡ false
     → (list_any has_loop when_true ≡ false) × (list_any has_loop when_false ≡ false)
 branch_free s g when_true when_false e free =
-    let is = sym (fold-if Bool loop_step g when_true when_false) ∙ sym (ap has_loop e) ∙ free in
-    let both = neither _ _ is in
-    (sym (any_map when_true) ∙ both.0, sym (any_map when_false) ∙ both.1)
+    neither _ _ (sym (branch_loops s g when_true when_false e) ∙ free)
 
 pub loop_is_none : (s : Stmt) (g : Guard) (claim : ℕ) (body : List Stmt) (line : ℕ) → s ≡ stmt.While g claim body line → has_loop s ≡ false → ⊥
 loop_is_none s g claim body line e free =
@@ -343,3 +341,116 @@ yes_free s g a b l e f free = ap (λ (x : List Stmt). list_any has_loop x) f ∙
 
 pub no_free : (s : Stmt) (g : Guard) (a b l : List Stmt) → s ≡ stmt.If g a b → l ≡ b → has_loop s ≡ false → list_any has_loop l ≡ false
 no_free s g a b l e f free = ap (λ (x : List Stmt). list_any has_loop x) f ∙ (branch_free s g a b e free).1
+
+-- ---- steps of the code
+
+pub ok_gives : {T E : Type 0} {P Q : T → Type 0} (r : Result T E) → IfOk r P → ((x : T) → P x → Q x) → IfOk r Q
+ok_gives (Ok x) h f = f x h
+ok_gives (Err e) h f = tt
+
+pub err_gives : {T E : Type 0} {P Q : E → Type 0} (r : Result T E) → IfErr r P → ((x : E) → P x → Q x) → IfErr r Q
+err_gives (Ok x) h f = tt
+err_gives (Err e) h f = f e h
+
+-- the branch that is taken has these statements
+pub branch_plays : (n : ℕ) (x : Stmt) (g : Guard) (a b l : List Stmt) (s t : State) (bit : Bool) → x ≡ stmt.If g a b → bit ≡ has_bit g s.bits → l ≡ cond bit a b
+    → PlaysAll n l s t → PlaysStmt n x s t
+branch_plays n x g a b l s t bit e is at p = branch_played n x g a b s t bit e is (subst (λ (z : List Stmt). PlaysAll n z s t) at p)
+
+pub branch_halts : (n : ℕ) (x : Stmt) (g : Guard) (a b l : List Stmt) (s : State) (h : Halt) (bit : Bool) → x ≡ stmt.If g a b → bit ≡ has_bit g s.bits → l ≡ cond bit a b
+    → HaltsAll n l s h → HaltsStmt n x s h
+branch_halts n x g a b l s h bit e is at p = branch_halted n x g a b s h bit e is (subst (λ (z : List Stmt). HaltsAll n z s h) at p)
+
+cut_at : (i : ℕ) (body : List Stmt) (d : Stmt) → i < length body → drop i body ≡ get_or body i d ∷ drop (i + 1) body
+cut_at i body d h = drop-cons body i d h ∙ ap (λ (k : ℕ). get_or body i d ∷ drop k body) (sym (add-one i))
+
+-- the next statement is played
+pub leads_next : (n : ℕ) (body : List Stmt) (s : State) (i : ℕ) (d x : Stmt) (t u : State) → i < length body → x ≡ get_or body i d → LeadsOn n body s (drop i body) t
+    → PlaysStmt n x t u → LeadsOn n body s (drop (i + 1) body) u
+leads_next n body s i d x t u h e on p =
+    leads_past n body s (get_or body i d) (drop (i + 1) body) t u (subst (λ (l : List Stmt). LeadsOn n body s l t) (cut_at i body d h) on) (subst (λ (z : Stmt). PlaysStmt n z t u) e p)
+
+-- the next statement halts
+pub leads_stop : (n : ℕ) (body : List Stmt) (s : State) (i : ℕ) (d x : Stmt) (t : State) (h : Halt) → i < length body → x ≡ get_or body i d → LeadsOn n body s (drop i body) t
+    → HaltsStmt n x t h → HaltsAll n body s h
+leads_stop n body s i d x t h lt e on p =
+    leads_halted n body s (get_or body i d) (drop (i + 1) body) t h (subst (λ (l : List Stmt). LeadsOn n body s l t) (cut_at i body d lt) on) (subst (λ (z : Stmt). HaltsStmt n z t h) e p)
+
+-- ---- how many statements there are, inner ones included
+
+abbrev total : List ℕ → ℕ
+total [] = 0
+total (k ∷ ks) = k + total ks
+
+abbrev weight_step : Stmt-F ℕ → ℕ
+weight_step (Stmt-F.Gate gate) = 1
+weight_step (Stmt-F.Measure qubit bit) = 1
+weight_step (Stmt-F.Reset qubit) = 1
+weight_step (Stmt-F.If guard when_true when_false) = 1 + (total when_true + total when_false)
+weight_step (Stmt-F.While guard claim body line) = 1
+weight_step (Stmt-F.Assert claim line) = 1
+weight_step (Stmt-F.Assume guard) = 1
+
+abbrev pub weight : Stmt → ℕ
+weight = fold-Stmt ℕ weight_step
+
+abbrev pub weight_of : List Stmt → ℕ
+weight_of [] = 0
+weight_of (s ∷ body) = weight s + weight_of body
+
+weight_is : (body : List Stmt) → total (map weight body) ≡ weight_of body
+weight_is [] = refl
+weight_is (s ∷ body) = ap (λ k. weight s + k) (weight_is body)
+
+pub branch_weight : (s : Stmt) (g : Guard) (a b : List Stmt) → s ≡ stmt.If g a b → weight s ≡ 1 + (weight_of a + weight_of b)
+branch_weight s g a b e = ap weight e ∙ fold-if ℕ weight_step g a b ∙ ap₂ (λ x y. 1 + (x + y)) (weight_is a) (weight_is b)
+
+pub weight_at : (i : ℕ) (body : List Stmt) (d : Stmt) → i < length body → weight (get_or body i d) ≤ weight_of body
+weight_at i [] d h = absurd (omega (arith, h))
+weight_at zero (s ∷ body) d h = omega arith
+weight_at (suc i) (s ∷ body) d h = let below = weight_at i body d (omega (arith, h)) in omega arith
+
+-- ---- the next statement of a body
+
+none_at : (i : ℕ) (body : List Stmt) (d : Stmt) → i < length body → list_any has_loop body ≡ false → has_loop (get_or body i d) ≡ false
+none_at i [] d h e = absurd (omega (arith, h))
+none_at zero (s ∷ body) d h e = (neither (has_loop s) (list_any has_loop body) e).0
+none_at (suc i) (s ∷ body) d h e = none_at i body d (omega (arith, h)) (neither (has_loop s) (list_any has_loop body) e).1
+
+pub next_free : (i : ℕ) (body : List Stmt) (d x : Stmt) → i < length body → x ≡ get_or body i d → list_any has_loop body ≡ false → has_loop x ≡ false
+next_free i body d x h e free = ap has_loop e ∙ none_at i body d h free
+
+pub next_playable : (n m p q i : ℕ) (body : List Stmt) (d x : Stmt) → i < length body → x ≡ get_or body i d → p ≡ n → q ≡ m → ArePlayable n m body → IsPlayableStmt p q x
+next_playable n m p q i body d x h e same_n same_m all =
+    let here : IsValidStmt n m all.claims x = subst (IsValidStmt n m all.claims) (sym e) (all.valid i d h) in
+    record { claims = all.claims; valid = subst (λ (k : ℕ). IsValidStmt k q all.claims x) (sym same_n) (subst (λ (k : ℕ). IsValidStmt n k all.claims x) (sym same_m) here) }
+
+pub next_weight : (i : ℕ) (body : List Stmt) (d x : Stmt) → i < length body → x ≡ get_or body i d → weight x ≤ weight_of body
+next_weight i body d x h e = let same = ap weight e in let below = weight_at i body d h in omega arith
+
+-- it is played with the program's number of qubits, by another name
+pub same_qubits : (p n : ℕ) (x : Stmt) (s t : State) → p ≡ n → PlaysStmt p x s t → PlaysStmt n x s t
+same_qubits p n x s t e h = subst (λ (k : ℕ). PlaysStmt k x s t) e h
+
+pub same_halts : (p n : ℕ) (x : Stmt) (s : State) (a : Halt) → p ≡ n → HaltsStmt p x s a → HaltsStmt n x s a
+same_halts p n x s a e h = subst (λ (k : ℕ). HaltsStmt k x s a) e h
+
+-- ---- what the replay tells of it
+
+pub left_over : (n : ℕ) (body : List Stmt) (v : List Amplitude) (bits b outs left : List Bool) (t : State) → b ≡ bits → t.outcomes ≡ left → 0 < length left
+    → PlaysAll n body (start_of b v outs) t → (x : ℕ) × (length left ≡ suc x) × HasLeft n body (start_of bits v outs) x
+left_over n body v bits b outs [] t e at some p = absurd (omega (arith, some))
+left_over n body v bits b outs (o ∷ rest) t e at some p =
+    let q : PlaysAll n body (start_of bits v outs) t = subst (λ (l : List Bool). PlaysAll n body (start_of l v outs) t) e p in
+    (length rest, refl, record { good = q.good; how = q.how; many = ap (λ (z : State). length z.outcomes) q.last ∙ ap (λ (l : List Bool). length l) at })
+
+pub stops_so : (n : ℕ) (body : List Stmt) (v : List Amplitude) (bits b outs : List Bool) (h : Halt) (told : ReplayStop) → b ≡ bits → list_any has_loop body ≡ false
+    → HaltsAll n body (start_of b v outs) h → told ≡ stop_of (length outs) h → Replays n body (start_of bits v outs) (Err told)
+stops_so n body v bits b outs h told e free p is =
+    subst (λ (z : ReplayStop). Replays n body (start_of bits v outs) (Err z)) (sym is) (by_halt h (subst (λ (l : List Bool). HaltsAll n body (start_of l v outs) h) e p))
+  where
+    by_halt : (h : Halt) → HaltsAll n body (start_of bits v outs) h → Replays n body (start_of bits v outs) (Err (stop_of (length outs) h))
+    by_halt halt.ShortOutcomes q = (free, record { good = q.good; stopped = q.stopped })
+    by_halt halt.Blocked q = (free, record { good = q.good; stopped = q.stopped })
+    by_halt (halt.Impossible left) q = (free, record { left = q.vector; first = q.first; zero = q.zero; counted = omega (arith, q.counted) })
+    by_halt (halt.Wide w) q = (free, q)

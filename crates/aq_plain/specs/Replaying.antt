@@ -3,7 +3,8 @@ use Rattle.std.specs.Prelude.{◌≡◌, ℕ, suc, ◌+◌, ◌<◌, ◌-◌, Bo
 use Rattle.std.specs.List.{list_any}
 use Rattle.aq_ring.specs.Fractions.{Amplitude}
 use Rattle.aq_ring.specs.Vectors.{IsZeroVector}
-use Rattle.aq_prog.specs.Events.{Event, Plays, Leaves, events, events_at, outcome_event, has_loop, IsLoopFree, AreGood, IsFirst, IsReplayed, IsCutShort, HasLeft, IsImpossible, outcomes_among}
+use Rattle.aq_prog.specs.Cuts.{has_loop, IsLoopFree}
+use Rattle.aq_prog.specs.Events.{Event, Plays, Leaves, events, events_at, outcome_event, AreGood, IsFirst, IsReplayed, IsCutShort, HasLeft, IsImpossible, outcomes_among}
 use Rattle.aq_prog.specs.Gates.{project}
 use Rattle.aq_prog.specs.Programs.{IsValidStmt}
 use Rattle.aq_prog.specs.Runs.{State, Run, How, meaning, run, measured, was_reset}

@@ -6,7 +6,7 @@ ghost use Rattle.aq_sets.specs.ValidExprs.{AreValidExprs};
 
 use crate::listing::numbers_of;
 use aq_ring::Amp;
-use aq_sets::{Expr, Sets, Term};
+use aq_sets::{Expr, Sets, Term, expr_sizes};
 use sqlite_items::Items;
 use std::alloc::Global;
 use std::test::Fail;
@@ -37,7 +37,8 @@ fn qubits_at(alloc: Global, exprs: &[Expr], at: u32) -> Result<u32, Fail>
     if at as usize >= exprs.len() {
         return Err(Fail::from(NotValid));
     }
-    let (qubits, _) = numbers_of(alloc, exprs, at)?;
+    let sizes = expr_sizes(alloc, exprs)?;
+    let (qubits, _) = numbers_of(sizes.as_slice(), at);
     Ok(qubits)
 }
 

@@ -7,7 +7,6 @@ mod built;
 mod listing;
 #[cfg(test)]
 mod listing_tests;
-mod loops;
 mod parts;
 mod places;
 mod player;
@@ -23,7 +22,7 @@ mod tests;
 mod vector;
 
 pub use apply::apply_plain;
-pub use listing::vectors;
+pub use listing::{vectors, vectors_by_sizes};
 pub use project::project_plain;
 pub use replaying::replay;
 pub use replay_stop::{Played, ReplayStop};

@@ -1,10 +1,10 @@
 //! The vectors that an expression lists.
-ghost use Rattle.std.specs.Prelude.{◌≡◌, ℕ, ◌<◌, ◌≤◌, ◌^◌, All, IfOk, Some, length, slice_get};
+ghost use Rattle.std.specs.Prelude.{◌≡◌, ℕ, ◌<◌, ◌≤◌, ◌^◌, List, All, IfOk, Some, length, slice_get};
 ghost use Rattle.aq_sets.specs.Vectors.{vectors_of, products_of};
 ghost use Rattle.aq_sets.specs.Sizes.{size_of};
 ghost use Rattle.aq_sets.specs.Valid.{IsValidSets};
 ghost use Rattle.aq_sets.specs.declared.sets.Expr.{Expr};
-ghost use Rattle.aq_sets.specs.Caps.{capped};
+ghost use Rattle.aq_sets.specs.Caps.{capped, capped_sizes};
 ghost use Rattle.aq_sets.specs.ValidExprs.{AreValidExprs};
 ghost use Rattle.aq_plain.specs.Listing.{Takes, VectorsGive, states_of, IsWhole};
 
@@ -13,7 +13,7 @@ use crate::rows::{Row, basis_rows, kets_row};
 use crate::stop::VectorStop;
 use crate::tensors::{power_rows, tensor_rows};
 use crate::vector::Vector;
-use aq_sets::{Expr, Sets, expr_sizes};
+use aq_sets::{Expr, Sets, Size, sizes_of};
 use sqlite_items::Items;
 use std::alloc::{AllocError, Global};
 
@@ -30,8 +30,25 @@ pub fn vectors(
     requires within { expr < length sets.now.exprs }
     ensures { VectorsGive sets.now.exprs expr most result }
 {
+    let sizes = sizes_of(alloc, sets)?;
+    vectors_by_sizes(alloc, sets, sizes.as_slice(), expr, most)
+}
+
+/// The same, where the sizes of all expressions are told: for who asks for the vectors of many.
+pub fn vectors_by_sizes(
+    alloc: Global,
+    sets: &Sets,
+    sizes: &[Size],
+    expr: u32,
+    most: u64,
+) -> Result<Items<Vector>, VectorStop>
+    requires valid { IsValidSets sets.now }
+    requires within { expr < length sets.now.exprs }
+    requires told { sizes.now ≡ capped_sizes sets.now.exprs }
+    ensures { VectorsGive sets.now.exprs expr most result }
+{
     let exprs = sets.exprs.as_slice();
-    let (qubits, count) = numbers_of(alloc, exprs, expr)?;
+    let (qubits, count) = numbers_of(sizes, expr);
     if count > u128::from(most) {
         return Err(VectorStop::TooMany);
     }
@@ -41,19 +58,13 @@ pub fn vectors(
 }
 
 /// How many qubits the expression has, and how many vectors it lists, told up to 2^64.
-pub(crate) fn numbers_of(
-    alloc: Global,
-    exprs: &[Expr],
-    expr: u32,
-) -> Result<(u32, u128), AllocError>
-    requires valid { AreValidExprs exprs.now }
-    requires within { expr < length exprs.now }
-    ensures qubits { IfOk result (λ n. n.0 ≡ (size_of exprs.now expr).qubits) }
-    ensures count { IfOk result (λ n. n.1 ≡ capped (size_of exprs.now expr).count) }
+pub(crate) fn numbers_of(sizes: &[Size], expr: u32) -> (u32, u128)
+    requires { expr < length sizes.now }
+    ensures qubits { (exprs : List Expr) → sizes.now ≡ capped_sizes exprs → result.0 ≡ (size_of exprs expr).qubits }
+    ensures count { (exprs : List Expr) → sizes.now ≡ capped_sizes exprs → result.1 ≡ capped (size_of exprs expr).count }
 {
-    let sizes = expr_sizes(alloc, exprs)?;
-    let size = &sizes.as_slice()[expr as usize];
-    Ok((size.qubits, size.count))
+    let size = &sizes[expr as usize];
+    (size.qubits, size.count)
 }
 
 /// The rows as state vectors.

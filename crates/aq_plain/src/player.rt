@@ -1,7 +1,7 @@
 //! A run of statements without loops, statement by statement.
 ghost use Rattle.std.specs.Prelude.{◌≡◌, ◌<◌, IfOk, IfErr, OnOk, true, false, length};
 ghost use Rattle.std.specs.List.{list_any};
-ghost use Rattle.aq_prog.specs.Events.{has_loop};
+ghost use Rattle.aq_prog.specs.Cuts.{has_loop};
 ghost use Rattle.aq_prog.specs.Gates.{apply_gate, flip_gate};
 ghost use Rattle.aq_prog.specs.Runs.{has_bit};
 ghost use Rattle.aq_plain.specs.Replaying.{ArePlayable, IsPlayableStmt, state_of, IsIn, IsTaken, Refuses, IsMeasured, HaltsMeasured, IsReset, HaltsReset, PlaysStmt, HaltsStmt, PlaysAll, HaltsAll};

@@ -2,11 +2,10 @@
 ghost use Rattle.std.specs.Prelude.{◌≡◌, ◌-◌, length};
 ghost use Rattle.aq_plain.specs.Replaying.{ArePlayable, Replays, start_of, stop_of};
 
-use crate::loops::has_loop;
 use crate::player::{Halt, Player, play_all};
 use crate::replay_stop::{Played, ReplayStop};
 use crate::vector::Vector;
-use aq_prog::Stmt;
+use aq_prog::{Stmt, has_loop};
 use sqlite_items::Items;
 use std::alloc::Global;
 

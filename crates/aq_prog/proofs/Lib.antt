@@ -7,3 +7,4 @@ pub mod StmtLaws
 pub mod EventProofs
 pub mod BlockLaws
 pub mod InsideLaws
+pub mod CutLaws

@@ -2,6 +2,7 @@
 #![tactic(auto)]
 
 mod copy;
+mod cuts;
 mod gate;
 pub mod laws;
 mod program;
@@ -9,6 +10,7 @@ mod stmt;
 mod table;
 
 pub use copy::copy_body;
+pub use cuts::{has_cut, has_loop};
 pub use gate::{Entry, Gate, Matrix};
 pub use program::{BitRegister, Program};
 pub use stmt::{Guard, Stmt};

@@ -9,26 +9,26 @@ use Rattle.aq_obligations.proofs.steps.enough_steps.Goals as goal
 
 pub words_in-starts-requires : goal.words_in-starts-requires
 words_in-starts-requires c =
-    cases_within c.args.program.now c.args.sets.now c.args.obligation.now.from c.as_slice-from.result.now c.as_slice-sizes.result.now c.as_slice-from.ensures (c.as_slice-sizes.ensures ∙ c.in_ok-list.ensures) c.requires.bound.from
+    cases_within c.args.program.now c.args.sets.now c.args.obligation.now.from c.as_slice-from.result.now c.args.sizes.now c.as_slice-from.ensures c.requires.told c.requires.bound.from
 
 pub words_in-goal-requires : goal.words_in-goal-requires
 words_in-goal-requires c =
-    cases_within c.args.program.now c.args.sets.now c.args.obligation.now.goal.cases c.as_slice-allowed.result.now c.as_slice-sizes.result.now c.as_slice-allowed.ensures (c.as_slice-sizes.ensures ∙ c.in_ok-list.ensures) c.requires.bound.goal
+    cases_within c.args.program.now c.args.sets.now c.args.obligation.now.goal.cases c.as_slice-allowed.result.now c.args.sizes.now c.as_slice-allowed.ensures c.requires.told c.requires.bound.goal
 
 pub weights_in-requires : goal.weights_in-requires
 weights_in-requires c =
-    cases_within c.args.program.now c.args.sets.now c.args.obligation.now.from c.as_slice-from.result.now c.as_slice-sizes.result.now c.as_slice-from.ensures (c.as_slice-sizes.ensures ∙ c.in_ok-list.ensures) c.requires.bound.from
+    cases_within c.args.program.now c.args.sets.now c.args.obligation.now.from c.as_slice-from.result.now c.args.sizes.now c.as_slice-from.ensures c.requires.told c.requires.bound.from
 
 pub weights_in-requires-2 : goal.weights_in-requires-2
 weights_in-requires-2 c =
-    cases_within c.args.program.now c.args.sets.now c.args.obligation.now.goal.cases c.as_slice-allowed.result.now c.as_slice-sizes.result.now c.as_slice-allowed.ensures (c.as_slice-sizes.ensures ∙ c.in_ok-list.ensures) c.requires.bound.goal
+    cases_within c.args.program.now c.args.sets.now c.args.obligation.now.goal.cases c.as_slice-allowed.result.now c.args.sizes.now c.as_slice-allowed.ensures c.requires.told c.requires.bound.goal
 
 pub returns : goal.returns
 returns c =
     let p = c.args.program.now in
     let s = c.args.sets.now in
     let o = c.args.obligation.now in
-    let told = c.as_slice-sizes.ensures ∙ c.in_ok-list.ensures in
+    let told = c.requires.told in
     let body = c.as_slice-fragment.ensures in
     let from = c.as_slice-from.ensures in
     let allowed = c.as_slice-allowed.ensures in

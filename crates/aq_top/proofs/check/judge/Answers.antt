@@ -6,7 +6,7 @@ use Rattle.aq_top.proofs.check.judge.Goals as goal
 pub judge-requires-clause-asked : goal.judge-requires-clause-asked
 judge-requires-clause-asked c =
     let l = c.args.loaded in
-    let made = c.in-Ok-obligation_at_end.ensures in
+    let made = c.in-Ok.ensures in
     record {
       program = c.requires.program;
       sets = c.requires.sets;
