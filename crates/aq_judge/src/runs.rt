@@ -42,7 +42,7 @@ fn end_of(
     if end.is_zero() {
         return Ok(End::Kept);
     }
-    match find_goal(alloc, end.amps(), allowed)? {
+    match find_goal(end.amps(), allowed) {
         Found::Goal => Ok(End::Kept),
         Found::Nothing => Ok(End::Lost(end)),
         Found::Unclear => Ok(End::Unclear),

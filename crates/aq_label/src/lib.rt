@@ -15,7 +15,7 @@ mod walk;
 
 use aq_ring::Amp;
 use std::hash::Hash;
-use walk::walk_all;
+use walk::{walk_all, walk_amps};
 
 /// A value that is a list of amplitudes, its parts. Each operation acts on each part as the amplitudes' does, and a
 /// value is known by its parts. `laws::labels` has the laws of these operations.
@@ -157,6 +157,19 @@ pub fn ratio_of<L: Label>(pairs: &[(L, L)]) -> Ratio
     ensures exact { IsSame result ↔ IsProportionalAndFits (lefts L.parts pairs.now) (rights L.parts pairs.now) }
 {
     match walk_all(pairs) {
+        Ok(walk) => walk.ratio(),
+        Err(mismatch) => mismatch,
+    }
+}
+
+/// The same of two lists of amplitudes, which are as long as each other. It stops at the first position that doesn't agree.
+pub fn ratio_of_amps(left: &[Amp], right: &[Amp]) -> Ratio
+    requires { length left.now ≡ length right.now }
+    ensures answer { IsRatio left.now right.now result }
+    ensures same { IsSame result → Proportional left.now right.now }
+    ensures different { IsDifferent result → ¬ (Proportional left.now right.now) }
+{
+    match walk_amps(left, right) {
         Ok(walk) => walk.ratio(),
         Err(mismatch) => mismatch,
     }

@@ -177,3 +177,15 @@ pub(crate) fn walk_all<L: Label>(pairs: &[(L, L)]) -> Result<Walk, Ratio>
     }
     Ok(walk)
 }
+
+/// Walks over two lists of amplitudes.
+pub(crate) fn walk_amps(left: &[Amp], right: &[Amp]) -> Result<Walk, Ratio>
+    requires { length left.now ≡ length right.now }
+    ensures { WalksOver left.now right.now result }
+{
+    let mut walk = Walk::new();
+    for i in 0..left.len() {
+        walk = walk.step(left[i], right[i])?;
+    }
+    Ok(walk)
+}
