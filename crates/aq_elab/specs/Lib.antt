@@ -9,3 +9,4 @@ pub mod Texts
 pub mod Bounds
 pub mod Behind
 pub mod Nodes
+pub mod FaultNames

@@ -1,3 +1,6 @@
+ghost use Rattle.std.specs.Prelude.{◌≡◌};
+ghost use Rattle.aq_elab.specs.FaultNames.{fault_name, fault_place};
+
 use aq_lex::Place;
 use std::alloc::AllocError;
 
@@ -38,6 +41,59 @@ pub enum ElabFault {
     DeclaredInBlock { at: Place },
     /// Memory ran out.
     Memory,
+}
+
+impl ElabFault {
+    /// The name of the fault.
+    #[tactic(auto, unfolding(crate::specs::FaultNames::fault_name))]
+    pub fn name(&self) -> &'static str
+        ensures { result.now ≡ fault_name self.now }
+    {
+        match self {
+            ElabFault::UnknownName { .. } => "UnknownName",
+            ElabFault::TwiceDeclared { .. } => "TwiceDeclared",
+            ElabFault::EmptyRegister { .. } => "EmptyRegister",
+            ElabFault::IndexOut { .. } => "IndexOut",
+            ElabFault::SizeDiffers { .. } => "SizeDiffers",
+            ElabFault::RepeatedQubit { .. } => "RepeatedQubit",
+            ElabFault::UnknownGate { .. } => "UnknownGate",
+            ElabFault::OperandCount { .. } => "OperandCount",
+            ElabFault::AngleForm { .. } => "AngleForm",
+            ElabFault::NoQubits { .. } => "NoQubits",
+            ElabFault::TooManyQubits { .. } => "TooManyQubits",
+            ElabFault::TooManyBits { .. } => "TooManyBits",
+            ElabFault::TooManyStatements { .. } => "TooManyStatements",
+            ElabFault::MissingInvariant { .. } => "MissingInvariant",
+            ElabFault::StrayAnnotation { .. } => "StrayAnnotation",
+            ElabFault::DeclaredInBlock { .. } => "DeclaredInBlock",
+            ElabFault::Memory => "Memory",
+        }
+    }
+
+    /// The place of the fault. None: memory ran out.
+    pub fn at(&self) -> Option<Place>
+        ensures { result ≡ fault_place self.now }
+    {
+        match self {
+            ElabFault::UnknownName { at } => Some(*at),
+            ElabFault::TwiceDeclared { at } => Some(*at),
+            ElabFault::EmptyRegister { at } => Some(*at),
+            ElabFault::IndexOut { at } => Some(*at),
+            ElabFault::SizeDiffers { at } => Some(*at),
+            ElabFault::RepeatedQubit { at } => Some(*at),
+            ElabFault::UnknownGate { at } => Some(*at),
+            ElabFault::OperandCount { at } => Some(*at),
+            ElabFault::AngleForm { at } => Some(*at),
+            ElabFault::NoQubits { at } => Some(*at),
+            ElabFault::TooManyQubits { at } => Some(*at),
+            ElabFault::TooManyBits { at } => Some(*at),
+            ElabFault::TooManyStatements { at } => Some(*at),
+            ElabFault::MissingInvariant { at } => Some(*at),
+            ElabFault::StrayAnnotation { at } => Some(*at),
+            ElabFault::DeclaredInBlock { at } => Some(*at),
+            ElabFault::Memory => None,
+        }
+    }
 }
 
 impl From<AllocError> for ElabFault {

@@ -51,6 +51,36 @@ pub enum ClaimFault {
     Memory,
 }
 
+impl ClaimFault {
+    ghost use Rattle.std.specs.Prelude.{◌≡◌};
+    ghost use Rattle.aq_obligations.specs.FaultNames.{fault_name, fault_claim};
+
+    /// The name of the fault.
+    #[tactic(auto, unfolding(crate::specs::FaultNames::fault_name))]
+    pub fn name(&self) -> &'static str
+        ensures { result.now ≡ fault_name self.now }
+    {
+        match self {
+            ClaimFault::UnknownClaim { .. } => "UnknownClaim",
+            ClaimFault::QubitsDiffer { .. } => "QubitsDiffer",
+            ClaimFault::BitUnknown { .. } => "BitUnknown",
+            ClaimFault::Memory => "Memory",
+        }
+    }
+
+    /// The name of the claim that has it. None: memory ran out.
+    pub fn into_claim(self) -> Option<Text>
+        ensures { result ≡ fault_claim self }
+    {
+        match self {
+            ClaimFault::UnknownClaim { name } => Some(name),
+            ClaimFault::QubitsDiffer { name, .. } => Some(name),
+            ClaimFault::BitUnknown { name, .. } => Some(name),
+            ClaimFault::Memory => None,
+        }
+    }
+}
+
 impl From<AllocError> for ClaimFault {
     ghost use Rattle.std.specs.Prelude.{◌≡◌};
     ghost use Rattle.aq_obligations.specs.declared.bound.ClaimFault.TheVariants.{Memory};

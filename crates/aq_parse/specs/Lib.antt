@@ -6,3 +6,4 @@ pub mod Grammar
 pub mod Reading
 pub mod Places
 pub mod Verdict
+pub mod FaultNames

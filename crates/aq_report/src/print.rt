@@ -1,9 +1,23 @@
 ghost use Rattle.std.specs.Prelude.{◌≡◌, ◌++◌, [], ◌∷◌, ℕ, List, codes};
 ghost use Rattle.std.specs.Fmt.{decimal};
 ghost use Rattle.aq_world.specs.Prints.{Prints};
-ghost use Rattle.aq_report.specs.Texts.{kind_text, located, state_text, ending_text, entry_line, entry_text,
-    entries_text, bits_line, refutation_text, why_text, outcome_text, verdict_text, summary_text, refuted_line,
-    newline};
+ghost use Rattle.aq_report.specs.Texts.{
+  kind_text,
+  located,
+  state_text,
+  ending_text,
+  entry_line,
+  entry_text,
+  entries_text,
+  bits_line,
+  refutation_text,
+  why_text,
+  outcome_text,
+  verdict_text,
+  summary_text,
+  refuted_line,
+  newline,
+};
 
 use crate::verdict::{Refutation, Verdict, Why};
 use aq_obligations::Kind;
@@ -178,14 +192,14 @@ fn print_outcome<K: Sink>(out: &mut K, verdict: &Verdict) -> Result<(), SinkFaul
     }
 }
 
-/// Prints the lines of a verdict on obligation number `number`, of this kind. `line` is the line of its assertion or loop,
-/// and a postcondition prints none.
+/// Prints the lines of a verdict on obligation number `number`, of this kind. `line` is the line of its assertion or
+/// loop, and a postcondition prints none.
 ///
-/// The first line is `1 post: `, `2 assert line 3: `, `3 entry line 7: ` or `4 keep line 7: ` with `verified`, `refuted`,
-/// `gave up width`, `gave up steps` or `gave up memory` behind it. Behind `refuted` come lines that begin with two blanks:
-/// `bits` with the bits at the start, a line `state` for each entry of the vector there that isn't zero, `outcomes`,
-/// `end bits`, and a line `end` for each such entry at the end. No bits are `-`, and an entry is `|01> (1,0,0,-2)/3`: its
-/// ket, its coefficients, and the power of `sqrt(2)` that divides them.
+/// The first line is `1 post: `, `2 assert line 3: `, `3 entry line 7: ` or `4 keep line 7: ` with `verified`,
+/// `refuted`, `gave up width`, `gave up steps` or `gave up memory` behind it. Behind `refuted` come lines that begin
+/// with two blanks: `bits` with the bits at the start, a line `state` for each entry of the vector there that isn't
+/// zero, `outcomes`, `end bits`, and a line `end` for each such entry at the end. No bits are `-`, and an entry is
+/// `|01> (1,0,0,-2)/3`: its ket, its coefficients, and the power of `sqrt(2)` that divides them.
 ///
 /// `Failed` and `Memory` are the sink's own, and what was put is then a front of these lines.
 pub fn print_verdict<K: Sink>(

@@ -121,7 +121,8 @@ fn a_refutation_with_bits(rt: HostRuntime) -> Result<(), Fail> {
     let mut out = empty_sink(rt.alloc());
     assert!(rt; verdict_by(&mut out, 3, Kind::Keep, 12, &verdict));
     let wanted =
-        b"3 keep line 12: refuted\n  bits 100\n  state |01> (1,0,0,0)/0\n  outcomes 01\n  end bits 011\n  end |00> (1,0,0,-2)/3\n  end |11> (0,-15,4,0)/0\n";
+        b"3 keep line 12: refuted\n  bits 100\n  state |01> (1,0,0,0)/0\n  outcomes 01\n  end bits 011\n  \
+        end |00> (1,0,0,-2)/3\n  end |11> (0,-15,4,0)/0\n";
     assert_eq!(rt; out.bytes.as_slice(), wanted.as_slice());
     Ok(())
 }

@@ -4,3 +4,4 @@ pub mod Meaning
 pub mod Bounds
 pub mod Parts
 pub mod Texts
+pub mod FaultNames

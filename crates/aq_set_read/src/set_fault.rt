@@ -39,6 +39,60 @@ pub enum SetFault {
     Memory,
 }
 
+impl SetFault {
+    ghost use Rattle.std.specs.Prelude.{◌≡◌};
+    ghost use Rattle.aq_set_read.specs.FaultNames.{fault_name, fault_place};
+
+    /// The name of the fault.
+    #[tactic(auto, unfolding(crate::specs::FaultNames::fault_name))]
+    pub fn name(&self) -> &'static str
+        ensures { result.now ≡ fault_name self.now }
+    {
+        match self {
+            SetFault::NotUtf8 { .. } => "NotUtf8",
+            SetFault::BadByte { .. } => "BadByte",
+            SetFault::OpenComment { .. } => "OpenComment",
+            SetFault::LongNumber { .. } => "LongNumber",
+            SetFault::BadKet { .. } => "BadKet",
+            SetFault::Unexpected { .. } => "Unexpected",
+            SetFault::TooDeep { .. } => "TooDeep",
+            SetFault::TooManyNames { .. } => "TooManyNames",
+            SetFault::TwiceNamed { .. } => "TwiceNamed",
+            SetFault::UnknownSet { .. } => "UnknownSet",
+            SetFault::QubitCount { .. } => "QubitCount",
+            SetFault::AmpTooWide { .. } => "AmpTooWide",
+            SetFault::KetLength { .. } => "KetLength",
+            SetFault::RepeatedKet { .. } => "RepeatedKet",
+            SetFault::TooManyNodes { .. } => "TooManyNodes",
+            SetFault::Memory => "Memory",
+        }
+    }
+
+    /// The place of the fault. None: memory ran out.
+    pub fn at(&self) -> Option<Place>
+        ensures { result ≡ fault_place self.now }
+    {
+        match self {
+            SetFault::NotUtf8 { at } => Some(*at),
+            SetFault::BadByte { at, .. } => Some(*at),
+            SetFault::OpenComment { at } => Some(*at),
+            SetFault::LongNumber { at } => Some(*at),
+            SetFault::BadKet { at } => Some(*at),
+            SetFault::Unexpected { at, .. } => Some(*at),
+            SetFault::TooDeep { at } => Some(*at),
+            SetFault::TooManyNames { at } => Some(*at),
+            SetFault::TwiceNamed { at } => Some(*at),
+            SetFault::UnknownSet { at } => Some(*at),
+            SetFault::QubitCount { at } => Some(*at),
+            SetFault::AmpTooWide { at } => Some(*at),
+            SetFault::KetLength { at } => Some(*at),
+            SetFault::RepeatedKet { at } => Some(*at),
+            SetFault::TooManyNodes { at } => Some(*at),
+            SetFault::Memory => None,
+        }
+    }
+}
+
 impl From<AllocError> for SetFault {
     ghost use Rattle.std.specs.Prelude.{◌≡◌};
     ghost use Rattle.aq_set_read.specs.declared.set_fault.SetFault.TheVariants.{Memory};

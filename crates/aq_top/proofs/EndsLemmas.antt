@@ -1,83 +1,136 @@
 -- How the parts of a run make its ends, and what these say.
-use Rattle.std.proofs.Common.{◌≡◌, ℕ, Bool, true, false, List, Option, Some, None, Result, Ok, refl, sym, ap₂, ◌∙◌, subst, ◌⊎◌, inl, inr}
+use Rattle.std.proofs.Common.{◌≡◌, ℕ, true, List, Option, Some, None, Result, Ok, Err, refl, sym, ap₂, ◌∙◌, subst, ◌⊎◌, inl, inr}
 use Rattle.std.specs.Io.KnownBytes.{Appends}
+use Rattle.aq_base.specs.Limits.{most_steps}
+use Rattle.aq_world.specs.Causes.{Rose}
 use Rattle.aq_world.specs.Held.{Held, bytes_at}
+use Rattle.aq_world.specs.Prints.{Prints}
+use Rattle.aq_world.specs.Sinks.{SinkMeaning}
+use Rattle.aq_world.specs.declared.sink.SinkFault.{SinkFault}
+use Rattle.aq_world.specs.declared.sink.SinkFault.TheVariants as fault
 use Rattle.aq_obligations.specs.Correct.{IsCorrect}
 use Rattle.aq_obligations.specs.Obligations.{Meaning, IsTrueOf}
 use Rattle.aq_correct.proofs.GatesOnlyProofs.{gates_only_laws}
 use Rattle.aq_obligations.specs.Bound.{Asked}
 use Rattle.aq_obligations.specs.declared.bound.ClaimFault.{ClaimFault}
+use Rattle.aq_report.specs.Refusals.{refusal_text}
+use Rattle.aq_report.specs.Verdicts.{IsJustified}
+use Rattle.aq_report.specs.declared.refusal.Refusal.{Refusal}
+use Rattle.aq_report.specs.declared.refusal.Refusal.TheVariants as refusal
 use Rattle.aq_report.specs.declared.verdict.Verdict.{Verdict}
 use Rattle.aq_report.specs.declared.verdict.Verdict.TheVariants as verdict
-use Rattle.aq_report.specs.Verdicts.{IsJustified}
 use Rattle.aq_elab.proofs.TextsLaws.{one_program}
 use Rattle.aq_judge.specs.Bodies.{are_gates, gates_in}
-use Rattle.aq_top.specs.Faults.{is_memory, refused_or_memory}
-use Rattle.aq_top.specs.SetFaults.{is_set_memory, is_claim_memory}
-use Rattle.aq_top.proofs.SetsLemmas.{one_sets}
 use Rattle.aq_judge.proofs.StmtLaws.{body_is}
-use Rattle.aq_top.specs.Clauses.{IsAnswer, Reports, Ends, ToldIsCorrect, ReadsFailed}
-use Rattle.aq_top.specs.Ends.{MayHold, ReadsTask, HasCause, stop_text, stop_status, verdict_status, post_report, IsEndText, EndsAs}
-use Rattle.aq_top.specs.Lines.{usage_text}
-use Rattle.aq_top.specs.Said.{Said}
-use Rattle.aq_base.specs.Limits.{most_steps}
+use Rattle.aq_top.specs.Check.{CheckWords, CheckCause, CheckEnd, IsReport, ReadsTask, verdict_status, post_report}
+use Rattle.aq_top.specs.Clauses.{IsAnswer, IsReportOf, StatusSays, ToldIsCorrect}
+use Rattle.aq_top.specs.Commands.{Command, Check, RunEnd}
+use Rattle.aq_top.specs.Ends.{Ends, EndsAs, IsText, StoppedBy, refusal_status, status_of}
+use Rattle.aq_top.specs.Reads.{MayHold}
 use Rattle.aq_top.specs.Tasks.{Task, IsTask, claims_asked, enough_for, obligation_of, program_of}
-use Rattle.aq_top.specs.Words.{CheckWords}
-use Rattle.aq_top.specs.declared.load.Stop.{Stop}
-use Rattle.aq_top.specs.declared.load.Stop.TheVariants as stop
 use Rattle.aq_top.specs.declared.status.Status.{Status}
 use Rattle.aq_top.specs.declared.status.Status.TheVariants as status
+use Rattle.aq_top.proofs.SetsLemmas.{one_sets}
 
--- saying a whole output ends as one
-said_ends : (told : Option Held) (RF : List ℕ → Type 0) (WF : Type 0) (words : Option CheckWords) (wanted result : Status) (text written : List ℕ)
-    → IsEndText told RF words wanted text → Said WF wanted text result written → EndsAs told RF WF words result written
-said_ends told RF WF words wanted result text written end (inl s) =
-    inl (subst (λ (r : Status). IsEndText told RF words r written) (sym s.0) (subst (λ (t : List ℕ). IsEndText told RF words wanted t) (sym s.1) end))
-said_ends told RF WF words wanted result text written end (inr (inl s)) = inr (inl (s.0, s.1, record { wanted = wanted; text = text; end_text = end; front = s.2 }))
-said_ends told RF WF words wanted result text written end (inr (inr s)) = inr (inr (s.0, record { wanted = wanted; text = text; end_text = end; front = s.1 }))
+-- ---- ends, whatever the command
 
-pub usage_ends : (told : Option Held) (RF : List ℕ → Type 0) (WF : Type 0) (result : Status) (written : List ℕ) → Said WF status.Usage usage_text result written → EndsAs told RF WF None result written
-usage_ends told RF WF result written said = said_ends told RF WF None status.Usage result usage_text written (refl, refl) said
+-- a call that prints a whole text ends with it, or as the sink stopped it
+pub Prints-ends : {S : Type 0} (sink : SinkMeaning S) (old new : S) (r : Result (Unit {0}) SinkFault) (wanted result : Status) (text : List ℕ)
+    → Prints sink old new r text → result ≡ status_of r wanted → Ends sink old new (IsText wanted text) result
+Prints-ends sink old new (Ok x) wanted result text p e = (text, p.bytes, inl (e, refl))
+Prints-ends sink old new (Err fault.Failed) wanted result text p e =
+    (p.bytes.0, p.bytes.2, inr (inl (e, record { calls = p.calls; failed = p.failed }, record { wanted = wanted; text = text; end_text = (refl, refl); front = p.bytes.1 })))
+Prints-ends sink old new (Err fault.Memory) wanted result text p e =
+    (p.bytes.0, p.bytes.2, inr (inr (e, record { calls = p.calls; failed = p.failed }, record { wanted = wanted; text = text; end_text = (refl, refl); front = p.bytes.1 })))
 
-pub stop_ends : (told : Option Held) (RF : List ℕ → Type 0) (WF : Type 0) (w : CheckWords) (s : Stop) (result : Status) (written : List ℕ) → HasCause told RF w s
-    → Said WF (stop_status s) (stop_text w s) result written → EndsAs told RF WF (Some w) result written
-stop_ends told RF WF w s result written cause said =
-    said_ends told RF WF (Some w) (stop_status s) result (stop_text w s) written (inr (record { stop = s; cause = cause; status_is = refl; text_is = refl })) said
+EndsAs-more : (Stopped : SinkFault → Type 0) (E F : Status → List ℕ → Type 0) (result : Status) (written : List ℕ)
+    → ((s : Status) (t : List ℕ) → E s t → F s t) → EndsAs Stopped E result written → EndsAs Stopped F result written
+EndsAs-more Stopped E F result written f (inl e) = inl (f result written e)
+EndsAs-more Stopped E F result written f (inr (inl e)) =
+    inr (inl (e.0, e.1, record { wanted = e.2.wanted; text = e.2.text; end_text = f e.2.wanted e.2.text e.2.end_text; front = e.2.front }))
+EndsAs-more Stopped E F result written f (inr (inr e)) =
+    inr (inr (e.0, e.1, record { wanted = e.2.wanted; text = e.2.text; end_text = f e.2.wanted e.2.text e.2.end_text; front = e.2.front }))
 
-pub report_ends : (told : Option Held) (RF : List ℕ → Type 0) (WF : Type 0) (w : CheckWords) (t : Task) (v : Verdict) (result : Status) (written : List ℕ) → ReadsTask told w t
-    → IsJustified most_steps (enough_for t) (obligation_of t) v → Said WF (verdict_status v) (post_report v) result written → EndsAs told RF WF (Some w) result written
-report_ends told RF WF w t v result written read justified said =
-    said_ends told RF WF (Some w) (verdict_status v) result (post_report v) written (inl (record { task = t; read = read; verdict = v; justified = justified; status_is = refl; text_is = refl })) said
+-- an end among some outputs is one among more of them
+pub Ends-more : {S : Type 0} (sink : SinkMeaning S) (old new : S) (E F : Status → List ℕ → Type 0) (result : Status)
+    → ((s : Status) (t : List ℕ) → E s t → F s t) → Ends sink old new E result → Ends sink old new F result
+Ends-more sink old new E F result f e = (e.0, e.1, EndsAs-more (StoppedBy sink old new) E F result e.0 f e.2)
 
-no_fault_answer : (v : Bool) → IsAnswer (refused_or_memory v) → ⊥
-no_fault_answer true a = a
-no_fault_answer false a = a
+EndsAs-says : (Stopped : SinkFault → Type 0) (E Says : Status → List ℕ → Type 0) (result : Status) (written : List ℕ) → ((s : Status) (t : List ℕ) → E s t → Says s t)
+    → (Stopped fault.Failed → Says status.Write written) → Says status.Memory written → EndsAs Stopped E result written → Says result written
+EndsAs-says Stopped E Says result written f w m (inl e) = f result written e
+EndsAs-says Stopped E Says result written f w m (inr (inl e)) = subst (λ (s : Status). Says s written) (sym e.0) (w e.1)
+EndsAs-says Stopped E Says result written f w m (inr (inr e)) = subst (λ (s : Status). Says s written) (sym e.0) m
 
-no_answer : (s : Stop) → IsAnswer (stop_status s) → ⊥
-no_answer stop.ProgramUnread a = a
-no_answer stop.ProgramTooLong a = a
-no_answer (stop.ProgramRefused f) a = no_fault_answer (is_memory f) a
-no_answer stop.ProgramUnbuilt a = a
-no_answer stop.SetsUnread a = a
-no_answer stop.SetsTooLong a = a
-no_answer (stop.SetsRefused f) a = no_fault_answer (is_set_memory f) a
-no_answer (stop.ClaimRefused f) a = no_fault_answer (is_claim_memory f) a
-no_answer stop.Memory a = a
+-- ---- checks
+
+-- a report that is said is an end of a check, and so is a refusal
+pub report_end : (told : Option Held) (RF : List ℕ → Type 0) (w : CheckWords) (t : Task) (v : Verdict) → ReadsTask told w t
+    → IsJustified most_steps (enough_for t) (obligation_of t) v → (s : Status) (text : List ℕ) → IsText (verdict_status v) (post_report v) s text → CheckEnd told RF w s text
+report_end told RF w t v read justified s text e = inl (record { task = t; read = read; verdict = v; justified = justified; status_is = e.0; text_is = e.1 })
+
+pub refused_end : (told : Option Held) (RF : List ℕ → Type 0) (w : CheckWords) (r : Refusal) → CheckCause told RF w r
+    → (s : Status) (text : List ℕ) → IsText (refusal_status r) (refusal_text r) s text → CheckEnd told RF w s text
+refused_end told RF w r cause s text e = inr (record { refusal = r; cause = cause; status_is = e.0; text_is = e.1 })
+
+-- ---- what a status says
+
+verdict_says : (told : Option Held) (RF : List ℕ → Type 0) (WF : Type 0) (w : CheckWords) (v : Verdict) (text : List ℕ) → IsReport told w (verdict_status v) text
+    → StatusSays told RF WF (Some (Check w)) (verdict_status v) text
+verdict_says told RF WF w verdict.Verified text r = (w, refl, r)
+verdict_says told RF WF w (verdict.Refuted x) text r = (w, refl, r)
+verdict_says told RF WF w (verdict.GaveUp x) text r = (w, refl, r)
+
+read_failed : (told : Option Held) (RF : List ℕ → Type 0) (w : CheckWords) (r : Refusal) → refusal_status r ≡ status.Read → CheckCause told RF w r → RF w.program ⊎ RF w.sets
+read_failed told RF w (refusal.ReadFault file) e (inl cause) = inl cause.1
+read_failed told RF w (refusal.ReadFault file) e (inr (inl behind)) = inr behind.then.1
+read_failed told RF w (refusal.ReadFault file) e (inr (inr claims)) = absurd claims.tells
+read_failed told RF w refusal.OutOfMemory e cause = cc
+read_failed told RF w _ e cause = cc
+
+refusal_says : (told : Option Held) (RF : List ℕ → Type 0) (WF : Type 0) (w : CheckWords) (r : Refusal) (text : List ℕ) → CheckCause told RF w r
+    → StatusSays told RF WF (Some (Check w)) (refusal_status r) text
+refusal_says told RF WF w (refusal.ReadFault file) text cause = read_failed told RF w (refusal.ReadFault file) refl cause
+refusal_says told RF WF w refusal.OutOfMemory text cause = tt
+refusal_says told RF WF w _ text cause = tt
+
+check_says : (told : Option Held) (RF : List ℕ → Type 0) (WF : Type 0) (w : CheckWords) (s : Status) (text : List ℕ) → CheckEnd told RF w s text
+    → StatusSays told RF WF (Some (Check w)) s text
+check_says told RF WF w s text (inl r) =
+    subst (λ (x : Status). StatusSays told RF WF (Some (Check w)) x text) (sym r.status_is)
+    (verdict_says told RF WF w r.verdict text (subst (λ (x : Status). IsReport told w x text) r.status_is r))
+check_says told RF WF w s text (inr r) =
+    subst (λ (x : Status). StatusSays told RF WF (Some (Check w)) x text) (sym r.status_is) (refusal_says told RF WF w r.refusal text r.cause)
+
+run_says : (told : Option Held) (RF : List ℕ → Type 0) (WF : Type 0) (words : Option Command) (s : Status) (text : List ℕ) → RunEnd told RF words s text
+    → StatusSays told RF WF words s text
+run_says told RF WF None s text e = subst (λ (x : Status). StatusSays told RF WF None x text) (sym e.0) refl
+run_says told RF WF (Some (Check w)) s text e = check_says told RF WF w s text e
+
+-- what was written goes with what the status says
+pub status_says : {S : Type 0} (sink : SinkMeaning S) (old new : S) (told : Option Held) (RF : List ℕ → Type 0) (words : Option Command) (result : Status)
+    → Ends sink old new (RunEnd told RF words) result
+    → (written : List ℕ) × Appends (sink.told old) (sink.told new) written × StatusSays told RF (Rose (sink.faults old) (sink.faults new)) words result written
+status_says sink old new told RF words result e =
+    let WF = Rose (sink.faults old) (sink.faults new) in
+    (e.0, e.1, EndsAs-says (StoppedBy sink old new) (RunEnd told RF words) (StatusSays told RF WF words) result e.0 (run_says told RF WF words) (λ s. s.failed refl) tt e.2)
+
+-- it at a status
+pub at_status : (told : Option Held) (RF : List ℕ → Type 0) (WF : Type 0) (words : Option Command) (s t : Status) (text : List ℕ) → s ≡ t
+    → StatusSays told RF WF words s text → StatusSays told RF WF words t text
+at_status told RF WF words s t text e x = subst (λ (y : Status). StatusSays told RF WF words y text) e x
 
 -- an answer is a report
-answer_reports : (told : Option Held) (RF : List ℕ → Type 0) (WF : Type 0) (words : Option CheckWords) (before after : Option (List ℕ)) (result : Status) (written : List ℕ)
-    → Appends before after written → EndsAs told RF WF words result written → IsAnswer result → Reports told words before after result
-answer_reports told RF WF None before after result written p (inl e) a = absurd (subst IsAnswer e.0 a)
-answer_reports told RF WF (Some w) before after result written p (inl (inl r)) a = (w, refl, written, p, r)
-answer_reports told RF WF (Some w) before after result written p (inl (inr s)) a = absurd (no_answer s.stop (subst IsAnswer s.status_is a))
-answer_reports told RF WF words before after result written p (inr (inl e)) a = absurd (subst IsAnswer e.0 a)
-answer_reports told RF WF words before after result written p (inr (inr e)) a = absurd (subst IsAnswer e.0 a)
+pub answer_says : (told : Option Held) (RF : List ℕ → Type 0) (WF : Type 0) (words : Option Command) (s : Status) (text : List ℕ) → IsAnswer s
+    → StatusSays told RF WF words s text → IsReportOf told words s text
+answer_says told RF WF words status.Good text a x = x
+answer_says told RF WF words status.Refuted text a x = x
+answer_says told RF WF words status.GaveUp text a x = x
+answer_says told RF WF words _ text a x = absurd a
 
-pub reports_of : (told : Option Held) (RF : List ℕ → Type 0) (WF : Type 0) (words : Option CheckWords) (before after : Option (List ℕ)) (result : Status)
-    → Ends told RF WF words before after result → IsAnswer result → Reports told words before after result
-reports_of told RF WF words before after result e a = answer_reports told RF WF words before after result e.0 e.1 e.2 a
+-- ---- a good report
 
--- a good report has a true obligation
+-- it has a true obligation
 good_verdict : (v : Verdict) → status.Good ≡ verdict_status v → v ≡ verdict.Verified
 good_verdict verdict.Verified e = refl
 good_verdict (verdict.Refuted r) e = cc
@@ -110,113 +163,15 @@ told_task told held w s t e read says =
     one_task (bytes_at held w.program) (bytes_at held w.sets) s t
     (subst (λ (b : List ℕ). IsTask b (bytes_at held w.sets) s) program (subst (λ (b : List ℕ). IsTask read.program b s) sets read.says)) says
 
-some_is : (x y : CheckWords) → ◌≡◌ {A = Option CheckWords} (Some x) (Some y) → x ≡ y
+some_is : (x y : CheckWords) → ◌≡◌ {A = Option Command} (Some (Check x)) (Some (Check y)) → x ≡ y
 some_is x y e = cc
 
-correct_of : (told : Option Held) (words : Option CheckWords) (before after : Option (List ℕ)) → Reports told words before after status.Good → ToldIsCorrect told words
-correct_of told words before after r = λ held w t told_is words_are says.
-    let report = r.4 in
+-- and its program is correct
+pub report_is_correct : (told : Option Held) (words : Option Command) (text : List ℕ) → IsReportOf told words status.Good text → ToldIsCorrect told words
+report_is_correct told words text r = λ held w t told_is words_are says.
+    let report = r.2 in
     let same : r.0 ≡ w = some_is r.0 w (sym r.1 ∙ words_are) in
     let read : ReadsTask told w report.task = subst (λ (x : CheckWords). ReadsTask told x report.task) same report.read in
     let task : report.task ≡ t = told_task told held w report.task t told_is read says in
     subst (λ (x : Task). IsCorrect (program_of x)) task
     (task_correct report.task read.gates (true_of most_steps (enough_for report.task) (obligation_of report.task) report.verdict report.status_is report.justified))
-
-pub good_is_correct : (told : Option Held) (RF : List ℕ → Type 0) (WF : Type 0) (words : Option CheckWords) (before after : Option (List ℕ)) (result : Status)
-    → Ends told RF WF words before after result → result ≡ status.Good → ToldIsCorrect told words
-good_is_correct told RF WF words before after result e good =
-    correct_of told words before after (subst (λ (r : Status). Reports told words before after r) good
-    (reports_of told RF WF words before after result e (subst IsAnswer (sym good) tt)))
-
-fault_unread : (v : Bool) → status.Read ≡ refused_or_memory v → ⊥
-fault_unread true e = cc
-fault_unread false e = cc
-
-read_stop : (told : Option Held) (RF : List ℕ → Type 0) (w : CheckWords) (s : Stop) → status.Read ≡ stop_status s → HasCause told RF w s → RF w.program ⊎ RF w.sets
-read_stop told RF w stop.ProgramUnread e cause = inl cause
-read_stop told RF w stop.ProgramTooLong e cause = cc
-read_stop told RF w (stop.ProgramRefused f) e cause = absurd (fault_unread (is_memory f) e)
-read_stop told RF w stop.ProgramUnbuilt e cause = cc
-read_stop told RF w stop.SetsUnread e cause = inr cause.then
-read_stop told RF w stop.SetsTooLong e cause = cc
-read_stop told RF w (stop.SetsRefused f) e cause = absurd (fault_unread (is_set_memory f) e)
-read_stop told RF w (stop.ClaimRefused f) e cause = absurd (fault_unread (is_claim_memory f) e)
-read_stop told RF w stop.Memory e cause = cc
-
-verdict_unread : (v : Verdict) → status.Read ≡ verdict_status v → ⊥
-verdict_unread verdict.Verified e = cc
-verdict_unread (verdict.Refuted r) e = cc
-verdict_unread (verdict.GaveUp w) e = cc
-
-read_cause : (told : Option Held) (RF : List ℕ → Type 0) (WF : Type 0) (words : Option CheckWords) (result : Status) (written : List ℕ) → EndsAs told RF WF words result written → result ≡ status.Read → ReadsFailed RF words
-read_cause told RF WF None result written (inl e) r = let h : status.Read ≡ status.Usage = sym r ∙ e.0 in cc
-read_cause told RF WF (Some w) result written (inl (inl x)) r = absurd (verdict_unread x.verdict (sym r ∙ x.status_is))
-read_cause told RF WF (Some w) result written (inl (inr s)) r = (w, refl, read_stop told RF w s.stop (sym r ∙ s.status_is) s.cause)
-read_cause told RF WF words result written (inr (inl e)) r = let h : status.Read ≡ status.Write = sym r ∙ e.0 in cc
-read_cause told RF WF words result written (inr (inr e)) r = let h : status.Read ≡ status.Memory = sym r ∙ e.0 in cc
-
-pub read_has_cause : (told : Option Held) (RF : List ℕ → Type 0) (WF : Type 0) (words : Option CheckWords) (before after : Option (List ℕ)) (result : Status)
-    → Ends told RF WF words before after result → result ≡ status.Read → ReadsFailed RF words
-read_has_cause told RF WF words before after result e r = read_cause told RF WF words result e.0 e.2 r
-
-fault_unwritten : (v : Bool) → status.Write ≡ refused_or_memory v → ⊥
-fault_unwritten true e = cc
-fault_unwritten false e = cc
-
-stop_unwritten : (s : Stop) → status.Write ≡ stop_status s → ⊥
-stop_unwritten stop.ProgramUnread e = cc
-stop_unwritten stop.ProgramTooLong e = cc
-stop_unwritten (stop.ProgramRefused f) e = fault_unwritten (is_memory f) e
-stop_unwritten stop.ProgramUnbuilt e = cc
-stop_unwritten stop.SetsUnread e = cc
-stop_unwritten stop.SetsTooLong e = cc
-stop_unwritten (stop.SetsRefused f) e = fault_unwritten (is_set_memory f) e
-stop_unwritten (stop.ClaimRefused f) e = fault_unwritten (is_claim_memory f) e
-stop_unwritten stop.Memory e = cc
-
-verdict_unwritten : (v : Verdict) → status.Write ≡ verdict_status v → ⊥
-verdict_unwritten verdict.Verified e = cc
-verdict_unwritten (verdict.Refuted r) e = cc
-verdict_unwritten (verdict.GaveUp w) e = cc
-
-write_cause : (told : Option Held) (RF : List ℕ → Type 0) (WF : Type 0) (words : Option CheckWords) (result : Status) (written : List ℕ) → EndsAs told RF WF words result written → result ≡ status.Write → WF
-write_cause told RF WF None result written (inl e) r = let h : status.Write ≡ status.Usage = sym r ∙ e.0 in cc
-write_cause told RF WF (Some w) result written (inl (inl x)) r = absurd (verdict_unwritten x.verdict (sym r ∙ x.status_is))
-write_cause told RF WF (Some w) result written (inl (inr s)) r = absurd (stop_unwritten s.stop (sym r ∙ s.status_is))
-write_cause told RF WF words result written (inr (inl e)) r = e.1
-write_cause told RF WF words result written (inr (inr e)) r = let h : status.Write ≡ status.Memory = sym r ∙ e.0 in cc
-
-pub write_has_cause : (told : Option Held) (RF : List ℕ → Type 0) (WF : Type 0) (words : Option CheckWords) (before after : Option (List ℕ)) (result : Status)
-    → Ends told RF WF words before after result → result ≡ status.Write → WF
-write_has_cause told RF WF words before after result e r = write_cause told RF WF words result e.0 e.2 r
-
-fault_unused : (v : Bool) → status.Usage ≡ refused_or_memory v → ⊥
-fault_unused true e = cc
-fault_unused false e = cc
-
-stop_unused : (s : Stop) → status.Usage ≡ stop_status s → ⊥
-stop_unused stop.ProgramUnread e = cc
-stop_unused stop.ProgramTooLong e = cc
-stop_unused (stop.ProgramRefused f) e = fault_unused (is_memory f) e
-stop_unused stop.ProgramUnbuilt e = cc
-stop_unused stop.SetsUnread e = cc
-stop_unused stop.SetsTooLong e = cc
-stop_unused (stop.SetsRefused f) e = fault_unused (is_set_memory f) e
-stop_unused (stop.ClaimRefused f) e = fault_unused (is_claim_memory f) e
-stop_unused stop.Memory e = cc
-
-verdict_unused : (v : Verdict) → status.Usage ≡ verdict_status v → ⊥
-verdict_unused verdict.Verified e = cc
-verdict_unused (verdict.Refuted r) e = cc
-verdict_unused (verdict.GaveUp w) e = cc
-
-usage_cause : (told : Option Held) (RF : List ℕ → Type 0) (WF : Type 0) (words : Option CheckWords) (result : Status) (written : List ℕ) → EndsAs told RF WF words result written → result ≡ status.Usage → words ≡ None
-usage_cause told RF WF None result written e r = refl
-usage_cause told RF WF (Some w) result written (inl (inl x)) r = absurd (verdict_unused x.verdict (sym r ∙ x.status_is))
-usage_cause told RF WF (Some w) result written (inl (inr s)) r = absurd (stop_unused s.stop (sym r ∙ s.status_is))
-usage_cause told RF WF (Some w) result written (inr (inl e)) r = let h : status.Usage ≡ status.Write = sym r ∙ e.0 in cc
-usage_cause told RF WF (Some w) result written (inr (inr e)) r = let h : status.Usage ≡ status.Memory = sym r ∙ e.0 in cc
-
-pub usage_has_cause : (told : Option Held) (RF : List ℕ → Type 0) (WF : Type 0) (words : Option CheckWords) (before after : Option (List ℕ)) (result : Status)
-    → Ends told RF WF words before after result → result ≡ status.Usage → words ≡ None
-usage_has_cause told RF WF words before after result e r = usage_cause told RF WF words result e.0 e.2 r

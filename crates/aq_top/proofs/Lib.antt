@@ -1,3 +1,4 @@
 pub mod SayLemmas
 pub mod EndsLemmas
+pub mod ReadsLemmas
 pub mod SetsLemmas

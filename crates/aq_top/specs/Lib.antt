@@ -1,9 +1,9 @@
-pub mod Codes
-pub mod Words
-pub mod Tasks
-pub mod Lines
-pub mod Faults
-pub mod SetFaults
-pub mod Ends
-pub mod Said
+pub mod Check
 pub mod Clauses
+pub mod Codes
+pub mod Commands
+pub mod Ends
+pub mod Lines
+pub mod ProgramFaults
+pub mod Reads
+pub mod Tasks

@@ -1,14 +1,14 @@
 ghost use Rattle.std.specs.Prelude.{◌≡◌, ◌≢◌, None, Some, map};
 ghost use Rattle.std.specs.String.{string_bytes};
-ghost use Rattle.aq_world.specs.Causes.{Rose};
 ghost use Rattle.aq_world.specs.Files.{first_of};
-ghost use Rattle.aq_top.specs.Clauses.{IsAnswer, Reports, Ends, ToldIsCorrect};
-ghost use Rattle.aq_top.specs.Ends.{ReadFailedOf};
-ghost use Rattle.aq_top.specs.Words.{check_words};
+ghost use Rattle.aq_top.specs.Clauses.{IsAnswer, Reports, ToldIsCorrect};
+ghost use Rattle.aq_top.specs.Commands.{RunEnd, command_asked};
+ghost use Rattle.aq_top.specs.Ends.{Ends};
+ghost use Rattle.aq_top.specs.Reads.{ReadFailedOf};
 
 use crate::status::Status;
 use crate::top::run;
-use aq_world::{HonestShelf, HonestSink, Shelf};
+use aq_world::{HonestShelf, HonestSink, Shelf, Sink};
 use std::alloc::Global;
 
 /// A run over files and a sink in memory of which no call fails: neither `Read` nor `Write` comes, and what is said of
@@ -21,16 +21,15 @@ pub fn run_honest(
 ) -> Status
     ensures no_read { result ≢ Status.Read }
     ensures no_write { result ≢ Status.Write }
-    ensures report_is_justified { IsAnswer result
-        → Reports (Some (first_of shelf.old.files)) (check_words (map string_bytes words.now)) (Some out.old.bytes)
-        (Some out.new.bytes) result }
+    ensures report_is_justified { IsAnswer result → Reports (Some (first_of shelf.old.files))
+        (command_asked (map string_bytes words.now)) (Some out.old.bytes) (Some out.new.bytes) result }
     ensures all_verified_implies_correct { result ≡ Status.Good
-        → ToldIsCorrect (Some (first_of shelf.old.files)) (check_words (map string_bytes words.now)) }
+        → ToldIsCorrect (Some (first_of shelf.old.files)) (command_asked (map string_bytes words.now)) }
     // The counts of faults stay 0, so that no end has a failed read or write for its cause.
-    ensures other_ends { Ends (Some (first_of shelf.old.files))
-        (ReadFailedOf ⟦<HonestShelf as Shelf>⟧.meaning shelf.old shelf.new) (Rose 0 0)
-        (check_words (map string_bytes words.now)) (Some out.old.bytes) (Some out.new.bytes) result }
-    ensures usage_has_its_cause { result ≡ Status.Usage → check_words (map string_bytes words.now) ≡ None }
+    ensures other_ends { Ends ⟦<HonestSink as Sink>⟧.meaning out.old out.new
+        (RunEnd (Some (first_of shelf.old.files)) (ReadFailedOf ⟦<HonestShelf as Shelf>⟧.meaning shelf.old shelf.new)
+        (command_asked (map string_bytes words.now))) result }
+    ensures usage_has_its_cause { result ≡ Status.Usage → command_asked (map string_bytes words.now) ≡ None }
     ensures shelf_stays { first_of shelf.new.files ≡ first_of shelf.old.files }
 {
     run(alloc, words, shelf, out)

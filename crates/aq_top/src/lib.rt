@@ -1,17 +1,18 @@
-//! The top call: it does what the words say, over a shelf of files and a sink for the output.
+//! The top call: it does what the words say, over a shelf of files and a sink for the output. Each command has a file
+//! here and one in `specs/`.
 #![tactic(auto)]
 
+mod check;
+mod command;
 mod honest;
-mod judge;
-mod load;
 mod program;
-mod refuse;
-mod refuse_sets;
+mod read;
 mod say;
 mod status;
 mod top;
 
 pub use honest::run_honest;
+pub use say::say_memory;
 pub use status::Status;
 pub use top::run;
 

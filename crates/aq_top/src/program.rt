@@ -2,10 +2,10 @@
 ghost use Rattle.std.specs.Prelude.{◌≡◌, ◌≤◌, length, All, IfOk, IfErr};
 ghost use Rattle.aq_prog.specs.Programs.{IsValidProgram, IsWritten};
 ghost use Rattle.aq_elab.specs.Texts.{SaysProgram};
-ghost use Rattle.aq_top.specs.Faults.{HasProgramFault};
+ghost use Rattle.aq_top.specs.ProgramFaults.{HasProgramFault, fault_name, fault_place};
 
 use aq_elab::{ElabFault, elaborate};
-use aq_lex::{LexFault, tokens};
+use aq_lex::{LexFault, Place, tokens};
 use aq_parse::{ParseFault, parse};
 use aq_prog::Program;
 use std::alloc::Global;
@@ -19,6 +19,30 @@ pub enum ProgramFault {
     Parse(ParseFault),
     /// Its tree means no program.
     Elab(ElabFault),
+}
+
+impl ProgramFault {
+    /// The name of the fault.
+    pub fn name(&self) -> &'static str
+        ensures { result.now ≡ fault_name self.now }
+    {
+        match self {
+            ProgramFault::Lex(fault) => fault.name(),
+            ProgramFault::Parse(fault) => fault.name(),
+            ProgramFault::Elab(fault) => fault.name(),
+        }
+    }
+
+    /// The place of the fault. None: memory ran out.
+    pub fn at(&self) -> Option<Place>
+        ensures { result ≡ fault_place self.now }
+    {
+        match self {
+            ProgramFault::Lex(fault) => fault.at(),
+            ProgramFault::Parse(fault) => fault.at(),
+            ProgramFault::Elab(fault) => fault.at(),
+        }
+    }
 }
 
 /// The program that a text says, or the first fault of the text. Want of memory is a fault that may come at any text.

@@ -70,7 +70,8 @@ fn reports(rt: HostRuntime) -> Result<(), Fail> {
         (
             BELL,
             MINUS,
-            b"1 post: refuted\n  bits -\n  state |00> (1,0,0,0)/0\n  outcomes -\n  end bits -\n  end |00> (1,0,0,0)/1\n  end |11> (1,0,0,0)/1\nverified 0, refuted 1, gave up 0\n",
+            b"1 post: refuted\n  bits -\n  state |00> (1,0,0,0)/0\n  outcomes -\n  end bits -\n  \
+            end |00> (1,0,0,0)/1\n  end |11> (1,0,0,0)/1\nverified 0, refuted 1, gave up 0\n",
             1,
         ),
         (
@@ -82,7 +83,8 @@ fn reports(rt: HostRuntime) -> Result<(), Fail> {
         (
             b"qubit[1] q; t q[0];",
             b"claim pre = [|0> + |1>]; claim post = [|0> + |1>];",
-            b"1 post: refuted\n  bits -\n  state |0> (1,0,0,0)/0\n  state |1> (1,0,0,0)/0\n  outcomes -\n  end bits -\n  end |0> (1,0,0,0)/0\n  end |1> (0,1,0,0)/0\nverified 0, refuted 1, gave up 0\n",
+            b"1 post: refuted\n  bits -\n  state |0> (1,0,0,0)/0\n  state |1> (1,0,0,0)/0\n  outcomes -\n  \
+            end bits -\n  end |0> (1,0,0,0)/0\n  end |1> (0,1,0,0)/0\nverified 0, refuted 1, gave up 0\n",
             1,
         ),
         (
@@ -94,7 +96,8 @@ fn reports(rt: HostRuntime) -> Result<(), Fail> {
         (
             b"bit c; qubit q; creg d[2]; x q;",
             b"claim pre = [|0>]; claim post = [|0>];",
-            b"1 post: refuted\n  bits 000\n  state |0> (1,0,0,0)/0\n  outcomes -\n  end bits 000\n  end |1> (1,0,0,0)/0\nverified 0, refuted 1, gave up 0\n",
+            b"1 post: refuted\n  bits 000\n  state |0> (1,0,0,0)/0\n  outcomes -\n  end bits 000\n  \
+            end |1> (1,0,0,0)/0\nverified 0, refuted 1, gave up 0\n",
             1,
         ),
         (
@@ -107,7 +110,8 @@ fn reports(rt: HostRuntime) -> Result<(), Fail> {
         (
             b"qubit[2] q; cx q[0], q[1];",
             b"set b = all 2; claim pre = b; claim post = [|0>] * all 1 union [|11>];",
-            b"1 post: refuted\n  bits -\n  state |11> (1,0,0,0)/0\n  outcomes -\n  end bits -\n  end |10> (1,0,0,0)/0\nverified 0, refuted 1, gave up 0\n",
+            b"1 post: refuted\n  bits -\n  state |11> (1,0,0,0)/0\n  outcomes -\n  end bits -\n  \
+            end |10> (1,0,0,0)/0\nverified 0, refuted 1, gave up 0\n",
             1,
         ),
         (
@@ -126,12 +130,14 @@ fn reports(rt: HostRuntime) -> Result<(), Fail> {
         (
             b"qubit q; bit[2] c; x q;",
             b"claim pre = [|1>] when c[0] == 0 and c[1] == 0; claim post = [|0>] when c[1] == 1, [|1>];",
-            b"1 post: refuted\n  bits 00\n  state |1> (1,0,0,0)/0\n  outcomes -\n  end bits 00\n  end |0> (1,0,0,0)/0\nverified 0, refuted 1, gave up 0\n",
+            b"1 post: refuted\n  bits 00\n  state |1> (1,0,0,0)/0\n  outcomes -\n  end bits 00\n  \
+            end |0> (1,0,0,0)/0\nverified 0, refuted 1, gave up 0\n",
             1,
         ),
         (
             b"qubit q; h q;",
-            b"claim pre = [170141183460469231731687303715884105727|0> + 170141183460469231731687303715884105727|1>]; claim post = [|0>];",
+            b"claim pre = [170141183460469231731687303715884105727|0> + 170141183460469231731687303715884105727|1>]; \
+            claim post = [|0>];",
             b"1 post: gave up width\nverified 0, refuted 0, gave up 1\n",
             2,
         ),
@@ -283,7 +289,9 @@ fn words_that_ask_for_nothing(rt: HostRuntime) -> Result<(), Fail> {
     assert_eq!(rt; status.code(), 4);
     assert_eq!(rt;
         out.bytes.as_slice(),
-        b"usage: autoq check PROG SETS [--pre NAME] [--post NAME] [--steps N] [--cert FILE]\n       autoq recheck PROG SETS CERT [--pre NAME] [--post NAME] [--steps N]\n       autoq replay PROG SETS --state NAME [--outcomes TEXT]\n       autoq trial N\n".as_slice()
+        b"usage: autoq check PROG SETS [--pre NAME] [--post NAME] [--steps N] [--cert FILE]\n       \
+        autoq recheck PROG SETS CERT [--pre NAME] [--post NAME] [--steps N]\n       \
+        autoq replay PROG SETS --state NAME [--outcomes TEXT]\n       autoq trial N\n".as_slice()
     );
     Ok(())
 }

@@ -1,65 +1,42 @@
 ghost use Rattle.std.specs.Prelude.{◌≡◌, map, None, Some};
-ghost use Rattle.std.specs.Option.{option_map};
 ghost use Rattle.std.specs.String.{string_bytes};
 ghost use Rattle.aq_world.specs.Causes.{Rose};
-ghost use Rattle.aq_top.specs.Clauses.{IsAnswer, Reports, Ends, ToldIsCorrect, ReadsFailed};
-ghost use Rattle.aq_top.specs.Ends.{ReadFailedOf};
-ghost use Rattle.aq_top.specs.Words.{check_words, files};
+ghost use Rattle.aq_top.specs.Clauses.{IsAnswer, Reports, ToldIsCorrect, ReadsFailed};
+ghost use Rattle.aq_top.specs.Commands.{RunEnd, command_asked, command_of};
+ghost use Rattle.aq_top.specs.Ends.{Ends};
+ghost use Rattle.aq_top.specs.Reads.{ReadFailedOf};
 
-use crate::judge::judge;
-use crate::load::load;
-use crate::say::{say_report, say_stop, say_usage};
+use crate::check::check;
+use crate::command::{Command, command_asked};
+use crate::say::say_usage;
 use crate::status::Status;
 use aq_world::{Shelf, Sink};
 use std::alloc::Global;
 
-/// The files of `check PROG SETS`, where the words are exactly these.
-fn files_named<'a>(words: &'a [String]) -> Option<(&'a str, &'a str)>
-    ensures { option_map (λ f. files f.0.now f.1.now) result ≡ check_words (map string_bytes words.entry.now) }
-{
-    match words {
-        [command, program, sets] => {
-            if command.as_str() == "check" {
-                Some((program.as_str(), sets.as_str()))
-            } else {
-                None
-            }
-        }
-        _ => None,
-    }
-}
-
-/// Checks a program against its sets.
-fn check<S: Shelf, K: Sink>(
+/// Does what a command says.
+fn obey<S: Shelf, K: Sink>(
     alloc: Global,
-    program: &str,
-    sets: &str,
+    command: Command<'_>,
     shelf: &mut S,
     out: &mut K,
 ) -> Status
-    ensures ends { Ends (S.meaning.holds shelf.old) (ReadFailedOf S.meaning shelf.old shelf.new)
-        (Rose (K.meaning.faults out.old) (K.meaning.faults out.new)) (Some (files program.now sets.now))
-        (K.meaning.told out.old) (K.meaning.told out.new) result }
+    ensures ends { Ends K.meaning out.old out.new (RunEnd (S.meaning.holds shelf.old)
+        (ReadFailedOf S.meaning shelf.old shelf.new) (Some (command_of command.entry))) result }
     ensures held { S.meaning.holds shelf.new ≡ S.meaning.holds shelf.old }
 {
-    match load(alloc, program, sets, shelf) {
-        Ok(loaded) => {
-            let verdict = judge(alloc, loaded);
-            say_report(out, &verdict)
-        }
-        Err(stop) => say_stop(out, program, sets, &stop),
+    match command {
+        Command::Check(words) => check(alloc, words, shelf, out),
     }
 }
 
 /// Does what the words say, or says how the program is used.
-fn obey<S: Shelf, K: Sink>(alloc: Global, words: &[String], shelf: &mut S, out: &mut K) -> Status
-    ensures ends { Ends (S.meaning.holds shelf.old) (ReadFailedOf S.meaning shelf.old shelf.new)
-        (Rose (K.meaning.faults out.old) (K.meaning.faults out.new)) (check_words (map string_bytes words.now))
-        (K.meaning.told out.old) (K.meaning.told out.new) result }
+fn answer<S: Shelf, K: Sink>(alloc: Global, words: &[String], shelf: &mut S, out: &mut K) -> Status
+    ensures ends { Ends K.meaning out.old out.new (RunEnd (S.meaning.holds shelf.old)
+        (ReadFailedOf S.meaning shelf.old shelf.new) (command_asked (map string_bytes words.now))) result }
     ensures held { S.meaning.holds shelf.new ≡ S.meaning.holds shelf.old }
 {
-    match files_named(words) {
-        Some((program, sets)) => check(alloc, program, sets, shelf, out),
+    match command_asked(words) {
+        Some(command) => obey(alloc, command, shelf, out),
         None => say_usage(out),
     }
 }
@@ -71,26 +48,24 @@ fn obey<S: Shelf, K: Sink>(alloc: Global, words: &[String], shelf: &mut S, out: 
 /// is given up.
 pub fn run<S: Shelf, K: Sink>(alloc: Global, words: &[String], shelf: &mut S, out: &mut K) -> Status
     // With Good, Refuted and GaveUp, a whole report was written, and its verdicts are justified.
-    ensures report_is_justified { IsAnswer result
-        → Reports (S.meaning.holds shelf.old) (check_words (map string_bytes words.now)) (K.meaning.told out.old)
-        (K.meaning.told out.new) result }
+    ensures report_is_justified { IsAnswer result → Reports (S.meaning.holds shelf.old)
+        (command_asked (map string_bytes words.now)) (K.meaning.told out.old) (K.meaning.told out.new) result }
 
     // With Good, the program that the files say is correct.
     ensures all_verified_implies_correct { result ≡ Status.Good
-        → ToldIsCorrect (S.meaning.holds shelf.old) (check_words (map string_bytes words.now)) }
+        → ToldIsCorrect (S.meaning.holds shelf.old) (command_asked (map string_bytes words.now)) }
 
-    // Whatever the status, what was written is a whole output that goes with it, or a front of one after a failed write or
-    // where the sink wanted memory.
-    ensures other_ends { Ends (S.meaning.holds shelf.old) (ReadFailedOf S.meaning shelf.old shelf.new)
-        (Rose (K.meaning.faults out.old) (K.meaning.faults out.new)) (check_words (map string_bytes words.now))
-        (K.meaning.told out.old) (K.meaning.told out.new) result }
-    ensures usage_has_its_cause { result ≡ Status.Usage → check_words (map string_bytes words.now) ≡ None }
-    ensures read_has_its_cause { result ≡ Status.Read
-        → ReadsFailed (ReadFailedOf S.meaning shelf.old shelf.new) (check_words (map string_bytes words.now)) }
+    // Whatever the status, what was written is a whole output that goes with it, or a front of one after a failed
+    // write or where the sink wanted memory.
+    ensures other_ends { Ends K.meaning out.old out.new (RunEnd (S.meaning.holds shelf.old)
+        (ReadFailedOf S.meaning shelf.old shelf.new) (command_asked (map string_bytes words.now))) result }
+    ensures usage_has_its_cause { result ≡ Status.Usage → command_asked (map string_bytes words.now) ≡ None }
+    ensures read_has_its_cause { result ≡ Status.Read → ReadsFailed (ReadFailedOf S.meaning shelf.old shelf.new)
+        (command_asked (map string_bytes words.now)) }
     ensures write_has_its_cause { result ≡ Status.Write → Rose (K.meaning.faults out.old) (K.meaning.faults out.new) }
 
     // No file changes.
     ensures shelf_stays { S.meaning.holds shelf.new ≡ S.meaning.holds shelf.old }
 {
-    obey(alloc, words, shelf, out)
+    answer(alloc, words, shelf, out)
 }

@@ -1,4 +1,4 @@
-use Rattle.std.proofs.Common.{ℕ, List, Ok, Err, refl, ap, ◌∙◌, subst}
+use Rattle.std.proofs.Common.{ℕ, List, Err, refl, ap, ◌∙◌, subst}
 use Rattle.std.proofs.lemmas.Result.{err_from_is_err_and}
 use Rattle.aq_world.specs.Prints.{Prints}
 use Rattle.aq_world.proofs.PrintsLemmas.{Prints-none, Prints-then, Prints-stops, part-more}
@@ -12,7 +12,7 @@ pub loop-index-preserved : goal.loop-index-preserved
 loop-index-preserved g c =
     let i = c.loop-index.invariant in
     let split = entries-at c.args.label.now _ _ c.loop-index.index _ _ c.amp-item.result c.qubits-qubits.ensures.value c.amps-amp-items.ensures.value c.loop-index-test.true c.amp-item.is in
-    (_, Prints-then i.1 refl ?, part-more i.0 _ _ _ _ split i.2)
+    (_, Prints-then i.1 refl (c.in_ok-print_nonzero.ensures), part-more i.0 _ _ _ _ split i.2)
 
 pub returns-in_err-print_nonzero : goal.returns-in_err-print_nonzero
 returns-in_err-print_nonzero g c =

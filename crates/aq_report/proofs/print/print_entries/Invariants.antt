@@ -1,6 +1,5 @@
-use Rattle.std.proofs.Common.{◌≡◌, ℕ, List, ◌++◌, drop, Ok, Result}
+use Rattle.std.proofs.Common.{◌≡◌, ℕ, List, ◌++◌, drop, Ok}
 use Rattle.aq_world.specs.Prints.{Prints}
-use Rattle.aq_world.specs.declared.sink.SinkFault.{SinkFault}
 use Rattle.aq_report.specs.Texts.{entries_from}
 use Rattle.aq_report.proofs.print.print_entries.Given as goal
 

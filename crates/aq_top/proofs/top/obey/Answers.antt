@@ -1,10 +1,14 @@
-use Rattle.aq_top.proofs.EndsLemmas.{usage_ends}
+use Rattle.std.proofs.Common.{◌≡◌, refl}
+use Rattle.aq_top.specs.declared.check.CheckWords.{CheckWords}
+use Rattle.aq_top.specs.declared.command.Command.{Command}
+use Rattle.aq_top.specs.declared.command.Command.TheVariants as command
 use Rattle.aq_top.proofs.top.obey.Goals as goal
 
-pub returns-in-Some-clause-ends : goal.returns-in-Some-clause-ends
-returns-in-Some-clause-ends g c = rw (← c.in-Some.ensures) c.check.ensures.ends
+-- there is one command today
+is_check : (x : Command) → (w : CheckWords) × (x ≡ command.Check w)
+is_check (command.Check w) = (w, refl)
 
-pub returns-in-None-clause-ends : goal.returns-in-None-clause-ends
-returns-in-None-clause-ends g c =
-    let said = c.say_usage.ensures.said in
-    rw (← c.in-None.ensures) (said.0, said.1, usage_ends _ _ _ _ _ said.2)
+pub returns-clause-ends : goal.returns-clause-ends
+returns-clause-ends g c =
+    let e = is_check c.args.command in
+    rw e.1 (rw e.1 at c.check.ensures.ends)

@@ -1,17 +1,27 @@
-use Rattle.aq_top.proofs.EndsLemmas.{reports_of, good_is_correct, usage_has_cause, read_has_cause, write_has_cause}
+use Rattle.aq_top.proofs.EndsLemmas.{status_says, at_status, answer_says, report_is_correct}
 use Rattle.aq_top.proofs.top.run.Goals as goal
 
 pub returns-clause-report_is_justified : goal.returns-clause-report_is_justified
-returns-clause-report_is_justified g c = reports_of _ _ _ _ _ _ _ c.obey.ensures.ends
+returns-clause-report_is_justified g c answer =
+    let says = status_says _ _ _ _ _ _ _ c.answer.ensures.ends in
+    (says.0, says.1, answer_says _ _ _ _ _ _ answer says.2)
 
 pub returns-clause-all_verified_implies_correct : goal.returns-clause-all_verified_implies_correct
-returns-clause-all_verified_implies_correct g c = good_is_correct _ _ _ _ _ _ _ c.obey.ensures.ends
+returns-clause-all_verified_implies_correct g c good =
+    let says = status_says _ _ _ _ _ _ _ c.answer.ensures.ends in
+    report_is_correct _ _ _ (at_status _ _ _ _ _ _ _ good says.2)
 
 pub returns-clause-usage_has_its_cause : goal.returns-clause-usage_has_its_cause
-returns-clause-usage_has_its_cause g c = usage_has_cause _ _ _ _ _ _ _ c.obey.ensures.ends
+returns-clause-usage_has_its_cause g c usage =
+    let says = status_says _ _ _ _ _ _ _ c.answer.ensures.ends in
+    at_status _ _ _ _ _ _ _ usage says.2
 
 pub returns-clause-read_has_its_cause : goal.returns-clause-read_has_its_cause
-returns-clause-read_has_its_cause g c = read_has_cause _ _ _ _ _ _ _ c.obey.ensures.ends
+returns-clause-read_has_its_cause g c read =
+    let says = status_says _ _ _ _ _ _ _ c.answer.ensures.ends in
+    at_status _ _ _ _ _ _ _ read says.2
 
 pub returns-clause-write_has_its_cause : goal.returns-clause-write_has_its_cause
-returns-clause-write_has_its_cause g c = write_has_cause _ _ _ _ _ _ _ c.obey.ensures.ends
+returns-clause-write_has_its_cause g c write =
+    let says = status_says _ _ _ _ _ _ _ c.answer.ensures.ends in
+    at_status _ _ _ _ _ _ _ write says.2

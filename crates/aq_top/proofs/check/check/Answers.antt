@@ -1,0 +1,13 @@
+use Rattle.aq_top.specs.Reads.{ReadFailedOf}
+use Rattle.aq_top.proofs.EndsLemmas.{Ends-more, report_end, refused_end}
+use Rattle.aq_top.proofs.check.check.Goals as goal
+
+pub returns-in-Ok-clause-ends : goal.returns-in-Ok-clause-ends
+returns-in-Ok-clause-ends g c =
+    let failed = ReadFailedOf g.S.Shelf.meaning c.args.shelf.now c.load.new.shelf in
+    Ends-more _ _ _ _ _ _ (report_end _ failed _ _ _ c.in-Ok.ensures.read c.judge-verdict.ensures) c.say_report.ensures
+
+pub returns-in-Err-clause-ends : goal.returns-in-Err-clause-ends
+returns-in-Err-clause-ends g c =
+    let failed = ReadFailedOf g.S.Shelf.meaning c.args.shelf.now c.load.new.shelf in
+    Ends-more _ _ _ _ _ _ (refused_end _ failed _ _ c.in-Err.ensures.cause) c.say_refusal.ensures

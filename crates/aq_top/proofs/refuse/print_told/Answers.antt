@@ -1,8 +1,0 @@
-use Rattle.std.proofs.Common.{append_assoc}
-use Rattle.aq_report.specs.Texts.{newline}
-use Rattle.aq_top.specs.Faults.{program_line}
-use Rattle.aq_top.proofs.refuse.print_told.Goals as goal
-
-pub returns : goal.returns
-unfolding program_line
-returns g c = rw (append_assoc c.args.name.now c.args.word.now newline, ← c.from.ensures, ← c.from-2.ensures) c.put_pieces.ensures

@@ -1,0 +1,29 @@
+ghost use Rattle.std.specs.Prelude.{◌≡◌, map};
+ghost use Rattle.std.specs.Option.{option_map};
+ghost use Rattle.std.specs.String.{string_bytes};
+ghost use Rattle.aq_top.specs.Commands.{command_asked, command_of};
+
+use crate::check::{CheckWords, check_words};
+
+/// What the words after the program's name ask for.
+#[derive(Clone, Copy, Debug)]
+pub(crate) enum Command<'a> {
+    /// `check PROG SETS`.
+    Check(CheckWords<'a>),
+}
+
+/// The command that the words ask for. The first word picks it.
+pub(crate) fn command_asked<'a>(words: &'a [String]) -> Option<Command<'a>>
+    ensures { option_map command_of result ≡ command_asked (map string_bytes words.entry.now) }
+{
+    match words {
+        [first, rest @ ..] => {
+            if first.as_str() == "check" {
+                check_words(rest).map(Command::Check)
+            } else {
+                None
+            }
+        }
+        [] => None,
+    }
+}
