@@ -111,7 +111,8 @@ begin_last ss h =
     omega arith
 
 -- the pairs under the choices of a run
-pub span_pair : (ss : List Span) (i c : ℕ) (s : Span) → IsCanonical (runs_of 0 ss) → slice_get ss i ≡ Some s → begin_of 0 ss i ≤ c → c < s.end → slice_get (expand (runs_of 0 ss)) c ≡ Some (s.left, s.right)
+pub span_pair : (ss : List Span) (i c : ℕ) (s : Span) → IsCanonical (runs_of 0 ss) → slice_get ss i ≡ Some s → begin_of 0 ss i ≤ c → c < s.end
+    → slice_get (expand (runs_of 0 ss)) c ≡ Some (s.left, s.right)
 span_pair ss i c s h e le lt =
     let within = slice_get_within ss i s e in
     let a = before-runs_of 0 ss i h (omega arith) in
