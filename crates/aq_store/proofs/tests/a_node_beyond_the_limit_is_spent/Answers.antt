@@ -1,4 +1,4 @@
-use Rattle.std.proofs.Common.{◌∷◌, [], sym, subst}
+use Rattle.std.proofs.Common.{[], sym, subst}
 use Rattle.aq_store.specs.Nodes.{EachPair, HasShape}
 use Rattle.aq_store.proofs.TableLemmas.{HasShape-Extends}
 use Rattle.aq_store.proofs.ShapeLemmas.{EachPair-none, EachPair-more, shape_leaf, shape_heights}
