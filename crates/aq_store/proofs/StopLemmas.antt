@@ -1,5 +1,5 @@
 -- Calls that give up within other calls.
-use Rattle.std.proofs.Common.{◌≡◌, ℕ, ◌+◌, ◌<◌, ◌≤◌, ◌⊎◌, inl, inr, List, Result, Ok, Err, IfErr, refl, sym, ap, subst, ◌∙◌, arith}
+use Rattle.std.proofs.Common.{◌≡◌, ℕ, ◌+◌, ◌<◌, ◌≤◌, ◌⊎◌, inl, inr, List, Result, Ok, Err, IsErr, IsErrAnd, IfErr, refl, sym, ap, subst, ◌∙◌, arith}
 use Rattle.aq_store.specs.Count.{Count, after}
 use Rattle.aq_store.specs.Stops.{GivesUp}
 use Rattle.aq_store.specs.declared.store.Stop.{Stop}
@@ -28,3 +28,8 @@ module _ {L : Type 0} where
   pub adds_limit : (node : Node L) (old new : List (Node L)) (before now : Count) (r : Result ℕ (Stop L)) → Adds node old new before now r → now.limit ≡ before.limit
   adds_limit node old new before now (Ok id) h = elim h.change [ inl same ↦ ap (λ (c : Count). c.limit) same.1 | inr more ↦ ap (λ (c : Count). c.limit) more.2 ]
   adds_limit node old new before now (Err why) h = h.limit
+
+-- the exit of a `?` that hands on what the call has answered
+pub passed_on : {T E : Type 0} (P : E → Type 0) (r : Result T E) (e : E) → IsErr r × IsErrAnd r (λ x. x ≡ e) → P e → IfErr r P
+passed_on P (Ok x) e h p = tt
+passed_on P (Err y) e h p = subst P (sym h.1) p
