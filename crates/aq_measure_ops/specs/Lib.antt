@@ -1,0 +1,3 @@
+pub mod Budget
+pub mod Padding
+pub mod Projection
