@@ -95,3 +95,7 @@ all_steps shape some =
 -- the same for a copy of the shape, with a tree of zeros of its lower levels
 pub copy_steps : (copy shape : List ℕ) → copy ≡ shape → IsSome copy → (d : ℕ) → 1 + total (drop d copy) + budget copy ≤ 2 * words shape * 2 ^ (length shape + 1)
 copy_steps copy shape is some d = subst (λ u. 1 + total (drop d copy) + budget copy ≤ 2 * words u * 2 ^ (length u + 1)) is (omega (arith, all_steps copy some, total-drop copy d))
+
+-- a budget alone
+pub budget_steps : (shape : List ℕ) → IsSome shape → budget shape ≤ 2 * words shape * 2 ^ (length shape + 1)
+budget_steps shape some = omega (arith, all_steps shape some)

@@ -5,7 +5,9 @@ use Rattle.std.proofs.lemmas.List.{length-append}
 use Rattle.aq_store.specs.declared.node.Node.{Node}
 use Rattle.aq_store.specs.Nodes.{EachPair, HasShape, pairs_at}
 use Rattle.aq_store.specs.Levels.{sides, children_of}
+use Rattle.aq_store.specs.Accounts.{HoldPlace, HoldPair, HoldPairs}
 use Rattle.aq_store.specs.Owed.{IsIn, first_of, rest_of, missing, owed, IsLevel, AreLevels, prices_of}
+use Rattle.aq_store.specs.Words.{IsWider}
 use Rattle.aq_store.proofs.RunLemmas.{slice_get-append_cases, slice_get-append_left, slice_get-append_right}
 use Rattle.aq_store.proofs.MeansLemmas.{opened}
 use Rattle.aq_store.proofs.OwedLemmas.{missing-none}
@@ -51,8 +53,12 @@ side_is P ps m i h = by ps m h.place h.at
     by (p ∷ ps) m (suc zero) e = let s : p.1 ≡ i = cc in subst P s (m.right 0 p refl)
     by (p ∷ ps) m (suc (suc k)) e = by ps (tail_pairs P p ps m) k e
 
-turned : (m n b o : ℕ) → o ≤ 2 * n * m * b → suc n * m + o ≤ m * (n + 1 + n * (2 * b))
-turned m n b o h = let e : m * (n + 1 + n * (2 * b)) ≡ suc n * m + 2 * n * m * b = omega arith in omega arith
+turned : (m k n b o : ℕ) → k ≤ n → o ≤ 2 * k * m * b → suc n * m + o ≤ m * (n + 1 + n * (2 * b))
+turned m k n b o le h =
+    let e : m * (n + 1 + n * (2 * b)) ≡ suc n * m + 2 * n * m * b = omega arith in
+    let f : 2 * n * m * b ≡ 2 * m * b * n = omega arith in
+    let g : 2 * k * m * b ≡ 2 * m * b * k = omega arith in
+    omega (arith, mul-le-mul_left (2 * m * b) le)
 
 module _ {L : Type 0} (table : List (Node L)) where
   children_left : (l : List ℕ) (k i c : ℕ) (p : ℕ × ℕ) → slice_get l k ≡ Some i → slice_get (pairs_at table i) c ≡ Some p → IsIn p.0 (children_of table l)
@@ -105,30 +111,50 @@ module _ {L : Type 0} (table : List (Node L)) where
     are_levels shape (children_of table l) (children_shaped n shape l all),
   )
 
-  -- each place of a level is owed once
-  pub owed_bound : (none : ℕ → Bool) → ((i : ℕ) → none i ≡ false) → (shape l : List ℕ) → ((i : ℕ) → IsIn i l → HasShape table shape i) → owed (prices_of shape) none (all_levels shape l) ≤ length l * budget shape
+  -- each place of a level is owed once, at the price of what is made of it
+  pub owed_bound : (none : ℕ → Bool) → ((i : ℕ) → none i ≡ false) → (shape wide l : List ℕ) → IsWider shape wide → ((i : ℕ) → IsIn i l → HasShape table shape i) → owed (prices_of wide) none (all_levels shape l) ≤ length l * budget wide
   unfolding owed budget
-  owed_bound none new [] l all = omega arith
-  owed_bound none new (n ∷ shape) l all =
+  owed_bound none new [] [] l w all = omega arith
+  owed_bound none new [] (n ∷ wide) l w all = absurd w
+  owed_bound none new (m ∷ shape) [] l w all = absurd w
+  owed_bound none new (m ∷ shape) (n ∷ wide) l w all =
       let a = missing-none none new l in
-      let b = owed_bound none new shape (children_of table l) (children_shaped n shape l all) in
-      let d = ap (λ k. k * budget shape) (length-children n shape l all) in
+      let b = owed_bound none new shape wide (children_of table l) w.1 (children_shaped m shape l all) in
+      let d = ap (λ k. k * budget wide) (length-children m shape l all) in
       let e = ap (λ k. suc n * k) a in
-      let f = turned (length l) n (budget shape) (owed (prices_of shape) none (all_levels shape (children_of table l))) (omega arith) in
+      let f = turned (length l) m n (budget wide) (owed (prices_of wide) none (all_levels shape (children_of table l))) w.0 (omega arith) in
       omega arith
 
--- levels below a root, and what is owed for them
-pub root_bound : {L : Type 0} (table : List (Node L)) (none : ℕ → Bool) → ((i : ℕ) → none i ≡ false) → (shape : List ℕ) (root : ℕ) → HasShape table shape root
-    → (levels : List (List ℕ)) × AreLevels table shape levels × IsIn root (first_of levels) × (owed (prices_of shape) none levels ≤ budget shape)
-root_bound table none new shape root s =
-    let all = λ (i : ℕ) (h : IsIn i (root ∷ [])). only shape root i h s in
-    let b = owed_bound table none new shape (root ∷ []) all in
-    let one : 1 * budget shape ≡ budget shape = omega arith in
-    (all_levels table shape (root ∷ []), are_levels table shape (root ∷ []) all, subst (IsIn root) (sym (first-all_levels table shape (root ∷ []))) (record { place = 0; at = refl }), omega arith)
-  where
-    only : (shape : List ℕ) (root i : ℕ) → IsIn i (root ∷ []) → HasShape table shape root → HasShape table shape i
-    only shape root i h s = by h.place h.at
-      where
-        by : (k : ℕ) → slice_get (root ∷ []) k ≡ Some i → HasShape table shape i
-        by zero e = let is : root ≡ i = cc in subst (HasShape table shape) is s
-        by (suc k) e = cc
+  only : (shape : List ℕ) (root i : ℕ) → IsIn i (root ∷ []) → HasShape table shape root → HasShape table shape i
+  only shape root i h s = by h.place h.at
+    where
+      by : (k : ℕ) → slice_get (root ∷ []) k ≡ Some i → HasShape table shape i
+      by zero e = let is : root ≡ i = cc in subst (HasShape table shape) is s
+      by (suc k) e = cc
+
+  -- levels that hold a root, and what is owed for them
+  pub root_bound : (none : ℕ → Bool) → ((i : ℕ) → none i ≡ false) → (shape wide : List ℕ) (root : ℕ) → IsWider shape wide → HasShape table shape root
+      → (levels : List (List ℕ)) × HoldPlace table shape root levels × (owed (prices_of wide) none levels ≤ budget wide)
+  root_bound none new shape wide root w s =
+      let all = λ (i : ℕ) (h : IsIn i (root ∷ [])). only shape root i h s in
+      let b = owed_bound none new shape wide (root ∷ []) w all in
+      let one : 1 * budget wide ≡ budget wide = omega arith in
+      (all_levels shape (root ∷ []), record { closed = are_levels shape (root ∷ []) all; here = subst (IsIn root) (sym (first-all_levels shape (root ∷ []))) (record { place = 0; at = refl }) }, omega arith)
+
+  -- levels that hold the pairs of a root
+  pub pairs_bound : (none : ℕ → Bool) → ((i : ℕ) → none i ≡ false) → (m : ℕ) (shape wide : List ℕ) (root : ℕ) → IsWider shape wide → HasShape table (m ∷ shape) root
+      → (levels : List (List ℕ)) × HoldPairs table shape root levels × (owed (prices_of wide) none levels ≤ 2 * m * budget wide)
+  pairs_bound none new m shape wide root w s =
+      let all = λ (i : ℕ) (h : IsIn i (root ∷ [])). only (m ∷ shape) root i h s in
+      let here = children_of table (root ∷ []) in
+      let below = children_shaped m shape (root ∷ []) all in
+      let b = owed_bound none new shape wide here w below in
+      let d = ap (λ k. k * budget wide) (length-children m shape (root ∷ []) all) in
+      let one : 2 * m * 1 * budget wide ≡ 2 * m * budget wide = omega arith in
+      (all_levels shape here, record {
+        each = λ c p at. record {
+          closed = are_levels shape here below;
+          left = subst (IsIn p.0) (sym (first-all_levels shape here)) (children_left (root ∷ []) 0 root c p refl at);
+          right = subst (IsIn p.1) (sym (first-all_levels shape here)) (children_right (root ∷ []) 0 root c p refl at);
+        };
+      }, omega arith)

@@ -52,6 +52,10 @@ shortened-word [] word w = refl
 shortened-word (n ∷ shape) [] w = absurd w
 shortened-word (n ∷ shape) (c ∷ word) w = ap₂ (λ k u. k ∷ u) (min-eq_left {n = c} {m = n - 1} (let lt : c < n = w.0 in omega arith)) (shortened-word shape word w.1)
 
+-- more choices, where there are some
+pub wider-some : (shape wide : List ℕ) → IsWider shape wide → ((k : ℕ) → k < length shape → 0 < get_or shape k 0) → (k : ℕ) → k < length wide → 0 < get_or wide k 0
+wider-some shape wide w some k lt = omega (arith, some k (omega (arith, wider-length shape wide w)), wider-at shape wide k w)
+
 pub lengthened_most : (n count more : ℕ) (b : Bool) → n ≡ cond b (count + more) count → n ≤ count + more
 lengthened_most n count more true e = omega arith
 lengthened_most n count more false e = omega arith
@@ -91,6 +95,10 @@ module _ {L : Type 0} where
       let first = Means-Extends (Padded start from to p.0) middle new y to q.0 m in
       let second = Means-same (Padded middle from to p.1) (Padded start from to p.1) new to q.1 (padded-Extends start middle x from to p.1 right) n in
       record { left = first.shaped; right = second.shaped; words = λ word w. ap₂ (λ l r. l ++ r) (first.words word w) (second.words word w) }
+
+  -- the root's meaning, by a copy of the shape
+  pub padded_root : (old new : List (Node L)) (copy shape wide : List ℕ) (i j : ℕ) → copy ≡ shape → Means (Padded old copy wide i) new wide j → (word : List ℕ) → IsWord wide word → tree new word j ≡ tree old (shortened shape word) i
+  padded_root old new copy shape wide i j is m word w = m.words word w ∙ ap (λ u. tree old (shortened u word) i) is
 
   -- ---- the pairs of a place, run by run
   pub record IsMade (R : List ℕ → List L → Type 0) (table : List (Node L)) (below : List ℕ) (runs : List Run) (number more index : ℕ) (old now : List (ℕ × ℕ)) : Type 0 where

@@ -11,6 +11,7 @@ use Rattle.aq_measure_ops.specs.Budget.{total}
 use Rattle.aq_measure_ops.specs.Projection.{Projects}
 use Rattle.aq_measure_ops.proofs.BudgetLemmas.{budget, copy_steps}
 use Rattle.aq_measure_ops.proofs.LevelBounds.{root_bound}
+use Rattle.aq_measure_ops.proofs.PaddingLemmas.{wider_refl}
 use Rattle.aq_measure_ops.proofs.ProjectionLemmas.{positive, projected, IsMemo-none}
 use Rattle.aq_measure_ops.proofs.projection.project.Goals as goal
 
@@ -42,27 +43,27 @@ returns-in_err-root-clause-steps g c =
     let fits = subst (λ s. HasShape c.args.store.now s c.args.lsta.now.root) (sym c.as_slice-shape.ensures.value) c.requires.fits in
     let most = copy_steps c.as_slice-shape.result.now c.args.lsta.now.shape.items c.as_slice-shape.ensures.value (positive c.args.store.now c.as_slice-shape.result.now c.args.lsta.now.root fits) (c.args.qubit + 1) in
     let here = HasShape-Extends c.args.store.now c.blank_from.new.store c.blank_from.ensures.keeps c.as_slice-shape.result.now c.args.lsta.now.root fits in
-    let r = root_bound c.blank_from.new.store (is_done (memo_at c.new-memo.result)) (λ i. ap is_some (c.new-memo.ensures i)) c.as_slice-shape.result.now c.args.lsta.now.root here in
-    let h = c.project_at.ensures.cheap r.0 (record { closed = r.1; here = r.2 }) in
-    omega (arith, most, c.blank_from.ensures.steps, h, r.3)
+    let r = root_bound c.blank_from.new.store (is_done (memo_at c.new-memo.result)) (λ i. ap is_some (c.new-memo.ensures i)) c.as_slice-shape.result.now c.as_slice-shape.result.now c.args.lsta.now.root (wider_refl c.as_slice-shape.result.now) here in
+    let h = c.project_at.ensures.cheap r.0 r.1 in
+    omega (arith, most, c.blank_from.ensures.steps, h, r.2)
 
 pub returns-in_default-clause-steps : goal.returns-in_default-clause-steps
 returns-in_default-clause-steps g c =
     let fits = subst (λ s. HasShape c.args.store.now s c.args.lsta.now.root) (sym c.as_slice-shape.ensures.value) c.requires.fits in
     let most = copy_steps c.as_slice-shape.result.now c.args.lsta.now.shape.items c.as_slice-shape.ensures.value (positive c.args.store.now c.as_slice-shape.result.now c.args.lsta.now.root fits) (c.args.qubit + 1) in
     let here = HasShape-Extends c.args.store.now c.blank_from.new.store c.blank_from.ensures.keeps c.as_slice-shape.result.now c.args.lsta.now.root fits in
-    let r = root_bound c.blank_from.new.store (is_done (memo_at c.new-memo.result)) (λ i. ap is_some (c.new-memo.ensures i)) c.as_slice-shape.result.now c.args.lsta.now.root here in
-    let h = c.project_at.ensures.cheap r.0 (record { closed = r.1; here = r.2 }) in
-    omega (arith, most, c.blank_from.ensures.steps, h, r.3)
+    let r = root_bound c.blank_from.new.store (is_done (memo_at c.new-memo.result)) (λ i. ap is_some (c.new-memo.ensures i)) c.as_slice-shape.result.now c.as_slice-shape.result.now c.args.lsta.now.root (wider_refl c.as_slice-shape.result.now) here in
+    let h = c.project_at.ensures.cheap r.0 r.1 in
+    omega (arith, most, c.blank_from.ensures.steps, h, r.2)
 
 pub returns-clause-steps : goal.returns-clause-steps
 returns-clause-steps g c =
     let fits = subst (λ s. HasShape c.args.store.now s c.args.lsta.now.root) (sym c.as_slice-shape.ensures.value) c.requires.fits in
     let most = copy_steps c.as_slice-shape.result.now c.args.lsta.now.shape.items c.as_slice-shape.ensures.value (positive c.args.store.now c.as_slice-shape.result.now c.args.lsta.now.root fits) (c.args.qubit + 1) in
     let here = HasShape-Extends c.args.store.now c.blank_from.new.store c.blank_from.ensures.keeps c.as_slice-shape.result.now c.args.lsta.now.root fits in
-    let r = root_bound c.blank_from.new.store (is_done (memo_at c.new-memo.result)) (λ i. ap is_some (c.new-memo.ensures i)) c.as_slice-shape.result.now c.args.lsta.now.root here in
-    let h = c.project_at.ensures.cheap r.0 (record { closed = r.1; here = r.2 }) in
-    omega (arith, most, c.blank_from.ensures.steps, h, r.3)
+    let r = root_bound c.blank_from.new.store (is_done (memo_at c.new-memo.result)) (λ i. ap is_some (c.new-memo.ensures i)) c.as_slice-shape.result.now c.as_slice-shape.result.now c.args.lsta.now.root (wider_refl c.as_slice-shape.result.now) here in
+    let h = c.project_at.ensures.cheap r.0 r.1 in
+    omega (arith, most, c.blank_from.ensures.steps, h, r.2)
 
 pub returns-in_err-zero-clause-steps : goal.returns-in_err-zero-clause-steps
 returns-in_err-zero-clause-steps g c =
@@ -82,7 +83,7 @@ returns-in_err-root-clause-refused g c =
     let fits = subst (λ s. HasShape c.args.store.now s c.args.lsta.now.root) (sym c.as_slice-shape.ensures.value) c.requires.fits in
     let most = copy_steps c.as_slice-shape.result.now c.args.lsta.now.shape.items c.as_slice-shape.ensures.value (positive c.args.store.now c.as_slice-shape.result.now c.args.lsta.now.root fits) (c.args.qubit + 1) in
     let here = HasShape-Extends c.args.store.now c.blank_from.new.store c.blank_from.ensures.keeps c.as_slice-shape.result.now c.args.lsta.now.root fits in
-    let r = root_bound c.blank_from.new.store (is_done (memo_at c.new-memo.result)) (λ i. ap is_some (c.new-memo.ensures i)) c.as_slice-shape.result.now c.args.lsta.now.root here in
+    let r = root_bound c.blank_from.new.store (is_done (memo_at c.new-memo.result)) (λ i. ap is_some (c.new-memo.ensures i)) c.as_slice-shape.result.now c.as_slice-shape.result.now c.args.lsta.now.root (wider_refl c.as_slice-shape.result.now) here in
     passed_on _ c.from_residual-in_err-root.result c.in_err-root.field-0.0 c.from_residual-in_err-root.ensures
-    (GivesUp-within c.args.steps.now c.blank_from.new.steps c.project_at.new.steps (owed (prices_of c.as_slice-shape.result.now) (is_done (memo_at c.new-memo.result)) r.0) (2 * words c.args.lsta.now.shape.items * 2 ^ (length c.args.lsta.now.shape.items + 1)) _ c.blank_from.ensures.limit (omega (arith, most, c.blank_from.ensures.steps, r.3))
-        (c.in_err-root.ensures.refused r.0 (record { closed = r.1; here = r.2 })))
+    (GivesUp-within c.args.steps.now c.blank_from.new.steps c.project_at.new.steps (owed (prices_of c.as_slice-shape.result.now) (is_done (memo_at c.new-memo.result)) r.0) (2 * words c.args.lsta.now.shape.items * 2 ^ (length c.args.lsta.now.shape.items + 1)) _ c.blank_from.ensures.limit (omega (arith, most, c.blank_from.ensures.steps, r.2))
+        (c.in_err-root.ensures.refused r.0 r.1))
