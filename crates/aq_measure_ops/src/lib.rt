@@ -2,8 +2,10 @@
 #![tactic(auto)]
 
 mod blank;
+mod joining;
 mod padding;
 mod projection;
 
+pub use joining::{Joined, union, union_of};
 pub use padding::pad;
 pub use projection::project;

@@ -1,5 +1,5 @@
 -- Shapes and words. A shape has a number of choices for each level, from the root down. A word has a choice for each level.
-use Rattle.std.specs.Prelude.{ℕ, ◌+◌, ◌-◌, ◌*◌, ◌<◌, ◌≤◌, List, [], ◌∷◌, min, max}
+use Rattle.std.specs.Prelude.{ℕ, ◌+◌, ◌-◌, ◌*◌, ◌<◌, ◌≤◌, List, [], ◌∷◌, drop, min, max}
 use Rattle.std.specs.List.{AllZip, fold}
 
 -- how many words a shape has
@@ -36,3 +36,11 @@ abbrev pub united_shape : List ℕ → List ℕ → List ℕ
 united_shape [] ys = ys
 united_shape (x ∷ xs) [] = x ∷ xs
 united_shape (x ∷ xs) (y ∷ ys) = (x + y) ∷ larger xs ys
+
+-- the choices below the root
+abbrev pub lower : List ℕ → List ℕ
+lower shape = drop 1 shape
+
+-- the choices of a union of many, from the left
+abbrev pub united_shapes : List (List ℕ) → List ℕ
+united_shapes shapes = fold united_shape [] shapes
