@@ -1,24 +1,35 @@
 -- The root of a union.
-use Rattle.std.proofs.Common.{◌≡◌, ℕ, inl, inr, zero, suc, ◌+◌, ◌-◌, ◌*◌, ◌<◌, ◌≤◌, ◌⊎◌, Bool, true, false, List, [], ◌∷◌, ◌++◌, map, length, take, drop, get_or, slice_get, sum_by, Option, None, Some, refl, sym, ap, ap₂, subst, ◌∙◌, arith}
+use Rattle.std.proofs.Common.{◌≡◌, ℕ, inl, inr, zero, suc, ◌+◌, ◌-◌, ◌*◌, ◌^◌, ◌<◌, ◌≤◌, ◌⊎◌, Bool, true, false, true≢false, List, [], ◌∷◌, ◌++◌, map, length, take, drop, get_or, slice_get, sum_by, Option, None, Some, refl, sym, ap, ap₂, subst, ◌∙◌, arith}
 use Rattle.std.proofs.Math.Seq.{take-append_seam}
 use Rattle.std.proofs.Math.Nat.{mul-le-mul_left}
 use Rattle.std.proofs.lemmas.List.{length-append, take-append-le}
-use Rattle.std.proofs.lemmas.List.Sums.{sum_by_push}
+use Rattle.std.proofs.lemmas.List.Sums.{sum_by_push, sum_by-cons}
 use Rattle.std.proofs.lemmas.Option.{slice_get_within}
 use Rattle.aq_store.specs.declared.node.Node.{Node}
 use Rattle.aq_store.specs.declared.node.Node.TheVariants.{Leaf, Inner}
 use Rattle.aq_store.specs.declared.lsta.Lsta.{Lsta}
 use Rattle.aq_store.specs.Nodes.{EachPair, HasHeight, HasShape, Extends, FitsStore, tree, pairs_of, pairs_at}
 use Rattle.aq_store.specs.Means.{Means, MeansPair, MeanPairs, under}
-use Rattle.aq_store.specs.Words.{IsWord, shortened, first_number, lower}
+use Rattle.aq_store.specs.Memos.{is_done}
+use Rattle.aq_store.specs.Owed.{owed, prices_of}
+use Rattle.aq_store.specs.Accounts.{HoldPairs}
+use Rattle.aq_store.specs.Words.{IsWord, IsWider, words, shortened, first_number, lower, united_shapes}
 use Rattle.aq_store.proofs.TableLemmas.{HasShape-Extends, EachPair-map, slice_get-some}
 use Rattle.aq_store.proofs.RunLemmas.{slice_get-append_left, slice_get-append_right, slice_get-append_cases}
+use Rattle.aq_store.proofs.OwedLemmas.{owed-less}
 use Rattle.aq_store.proofs.ShapeLemmas.{shape_height}
 use Rattle.aq_store.proofs.MeansLemmas.{MeansPair-Extends, MeansPair-same, tree-choice}
 use Rattle.aq_measure_ops.specs.Padding.{Padded, Appends}
-use Rattle.aq_measure_ops.specs.Joining.{first_choices, choices_before, HasPart}
-use Rattle.aq_measure_ops.proofs.PaddingLemmas.{padded-Extends}
-use Rattle.aq_measure_ops.proofs.UnitedLemmas.{front_sum, shortened_first}
+use Rattle.aq_measure_ops.specs.Joining.{shape_of, first_choices, choices_before, HasPart, AllFit, HaveLevels}
+use Rattle.aq_measure_ops.proofs.BudgetLemmas.{IsSome, budget, budget_steps}
+use Rattle.aq_measure_ops.proofs.LevelBounds.{pairs_bound}
+use Rattle.aq_measure_ops.proofs.ProjectionLemmas.{positive}
+use Rattle.aq_measure_ops.proofs.PaddingLemmas.{padded-Extends, wider-some, wider-length}
+use Rattle.aq_measure_ops.proofs.UnitedLemmas.{front_sum, shortened_first, part_wider, parts_first, first_at}
+
+split_first : (shape : List ℕ) → 0 < length shape → shape ≡ first_number shape ∷ lower shape
+split_first [] some = absurd (omega arith)
+split_first (n ∷ shape) some = refl
 
 module _ {L : Type 0} where
   -- the pairs are those of the parts, one part's after the other's
@@ -87,10 +98,6 @@ module _ {L : Type 0} where
   pub joined_heights : (start table : List (Node L)) (below : List ℕ) (parts : List Lsta) (pairs : List (ℕ × ℕ)) → IsJoined start table below parts pairs → (h : ℕ) × EachPair (HasHeight table h) pairs
   joined_heights start table below parts pairs j = (length below, EachPair-map _ _ pairs (shape_height table below) j.shaped)
 
-  split_first : (shape : List ℕ) → 0 < length shape → shape ≡ first_number shape ∷ lower shape
-  split_first [] some = absurd (omega arith)
-  split_first (n ∷ shape) some = refl
-
   -- the root
   pub joined_root : (start last new : List (Node L)) → Extends last new → (shape : List ℕ) (parts : List Lsta) (pairs : List (ℕ × ℕ)) (root : ℕ) → 0 < length shape → 0 < length pairs → first_number shape ≡ sum_by first_choices parts
       → IsJoined start last (lower shape) parts pairs → slice_get new root ≡ Some (Inner pairs) → HasShape new shape root
@@ -114,6 +121,81 @@ module _ {L : Type 0} where
         ∙ ap (λ u. tree start u part.root) (shortened_first part.shape.items c word lt);
   }
 
--- what all parts and the root take
-pub union_steps : (n b t u v : ℕ) → u ≤ t + 2 * n * b → v ≤ u + n → v ≤ t + (n + 1 + n * (2 * b))
-union_steps n b t u v le more = let e : n * (2 * b) ≡ 2 * n * b = omega arith in omega arith
+-- ---- what all parts and the root take
+pub loop_most : (p f n b t u v : ℕ) → p + f ≤ n → u ≤ t + 2 * p * b → v ≤ u + 2 * f * b → v ≤ t + n * (2 * b)
+loop_most p f n b t u v le before more =
+    let e : 2 * p * b + 2 * f * b ≡ 2 * b * (p + f) = omega arith in
+    let g : n * (2 * b) ≡ 2 * b * n = omega arith in
+    omega (arith, mul-le-mul_left (2 * b) le)
+
+pub loop_step : (p f q b t u v : ℕ) → q ≡ p + f → u ≤ t + 2 * p * b → v ≤ u + 2 * f * b → v ≤ t + 2 * q * b
+loop_step p f q b t u v is before more = let e : 2 * q * b ≡ 2 * (p + f) * b = ap (λ k. 2 * k * b) is in let g : 2 * (p + f) * b ≡ 2 * p * b + 2 * f * b = omega arith in omega arith
+
+pub loop_end : (q n b t u : ℕ) → q ≡ n → u ≤ t + 2 * q * b → u ≤ t + n * (2 * b)
+loop_end q n b t u is le = let e : 2 * q * b ≡ 2 * n * b = ap (λ k. 2 * k * b) is in let g : n * (2 * b) ≡ 2 * n * b = omega arith in omega arith
+
+pub two_sum : (left right : Lsta) → sum_by first_choices (left ∷ right ∷ []) ≡ first_choices left + first_choices right
+two_sum left right = sum_by-cons first_choices left (right ∷ []) ∙ (let e = sum_by-cons first_choices right [] in let g : first_choices left + sum_by first_choices (right ∷ []) ≡ first_choices left + first_choices right = omega arith in g)
+
+pub one_sum : (left : Lsta) → sum_by first_choices (left ∷ []) ≡ first_choices left
+one_sum left = let e = sum_by-cons first_choices left [] in omega arith
+
+pub two_levels : (left right : Lsta) → length left.shape.items ≡ length right.shape.items → HaveLevels (length left.shape.items) (left ∷ right ∷ [])
+two_levels left right same = record { each = λ k part at. by k part at }
+  where
+    by : (k : ℕ) (part : Lsta) → slice_get (left ∷ right ∷ []) k ≡ Some part → length part.shape.items ≡ length left.shape.items
+    by zero part at = let is : left ≡ part = cc in ap (λ (p : Lsta). length p.shape.items) (sym is)
+    by (suc zero) part at = let is : right ≡ part = cc in ap (λ (p : Lsta). length p.shape.items) (sym is) ∙ sym same
+    by (suc (suc k)) part at = cc
+
+module _ {L : Type 0} (table : List (Node L)) where
+  pub two_fit : (left right : Lsta) → FitsStore table left → FitsStore table right → AllFit table (left ∷ right ∷ [])
+  two_fit left right a b = record { each = λ k part at. by k part at }
+    where
+      by : (k : ℕ) (part : Lsta) → slice_get (left ∷ right ∷ []) k ≡ Some part → FitsStore table part
+      by zero part at = let is : left ≡ part = cc in subst (FitsStore table) is a
+      by (suc zero) part at = let is : right ≡ part = cc in subst (FitsStore table) is b
+      by (suc (suc k)) part at = cc
+
+  -- each level of the union has a choice
+  union_some : (n : ℕ) (parts : List Lsta) → 0 < length parts → AllFit table parts → HaveLevels n parts → IsSome (united_shapes (map shape_of parts)) × (length (united_shapes (map shape_of parts)) ≡ n)
+  union_some n parts some fits levels =
+      let first = slice_get-some parts 0 some in
+      let wide = part_wider n parts 0 first.0 levels first.1 in
+      (
+        wider-some first.0.shape.items (united_shapes (map shape_of parts)) wide (positive table first.0.shape.items first.0.root (fits.each 0 first.0 first.1)),
+        sym (wider-length first.0.shape.items (united_shapes (map shape_of parts)) wide) ∙ levels.each 0 first.0 first.1,
+      )
+
+  pub union_first : (n : ℕ) (parts : List Lsta) → 0 < n → 0 < length parts → AllFit table parts → HaveLevels n parts → 0 < sum_by first_choices parts
+  union_first n parts more some fits levels =
+      let u = union_some n parts some fits levels in
+      omega (arith, u.0 0 (omega (arith, u.1, more)), parts_first n parts levels, first_at (united_shapes (map shape_of parts)))
+
+  pub united_levels : (n : ℕ) (parts : List Lsta) (shape : List ℕ) → 0 < n → 0 < length parts → AllFit table parts → HaveLevels n parts → shape ≡ united_shapes (map shape_of parts) → 0 < length shape
+  united_levels n parts shape more some fits levels is = omega (arith, (union_some n parts some fits levels).1, ap length is, more)
+
+  -- the bound on a union
+  pub union_bound : (n : ℕ) (parts : List Lsta) → 0 < n → 0 < length parts → AllFit table parts → HaveLevels n parts
+      → sum_by first_choices parts + 1 + sum_by first_choices parts * (2 * budget (lower (united_shapes (map shape_of parts))))
+          ≤ 2 * words (united_shapes (map shape_of parts)) * 2 ^ (length (united_shapes (map shape_of parts)) + 1)
+  unfolding budget
+  union_bound n parts more some fits levels =
+      let u = union_some n parts some fits levels in
+      let all = united_shapes (map shape_of parts) in
+      let split = split_first all (omega (arith, u.1, more)) in
+      let number = parts_first n parts levels in
+      let most = budget_steps all u.0 in
+      let e : budget all ≡ first_number all + 1 + first_number all * (2 * budget (lower all)) = ap budget split in
+      let f : first_number all + 1 + first_number all * (2 * budget (lower all)) ≡ sum_by first_choices parts + 1 + sum_by first_choices parts * (2 * budget (lower all)) = ap (λ k. k + 1 + k * (2 * budget (lower all))) number in
+      omega arith
+
+  -- what is owed for a part, whatever is done
+  pub part_owed : (at : ℕ → Option ℕ) (shape wide : List ℕ) (root : ℕ) → 0 < length shape → IsWider shape wide → HasShape table shape root
+      → (levels : List (List ℕ)) × HoldPairs table (lower shape) root levels × (owed (prices_of (lower wide)) (is_done at) levels ≤ 2 * first_number shape * budget (lower wide))
+  part_owed at [] wide root some w s = absurd (omega arith)
+  part_owed at (m ∷ shape) [] root some w s = absurd w
+  part_owed at (m ∷ shape) (n ∷ wide) root some w s =
+      let r = pairs_bound table (λ i. false) (λ i. refl) m shape wide root w.1 s in
+      let less = owed-less (prices_of wide) (λ i. false) (is_done at) (λ i e. absurd (true≢false (sym e))) r.0 in
+      (r.0, r.1, omega (arith, r.2, less))

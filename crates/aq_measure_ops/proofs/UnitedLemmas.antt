@@ -179,3 +179,9 @@ front_first n parts k part before more h at is same =
     let d = parts_first n parts h in
     let e = front_sum parts k part at in
     omega arith
+
+pub take_all : {X : Type 0} (xs : List X) (k : ℕ) → length xs ≤ k → take k xs ≡ xs
+take_all [] zero le = refl
+take_all [] (suc k) le = refl
+take_all (x ∷ xs) zero le = absurd (omega arith)
+take_all (x ∷ xs) (suc k) le = ap (λ l. x ∷ l) (take_all xs k (omega arith))
