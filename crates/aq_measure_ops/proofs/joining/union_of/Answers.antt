@@ -72,8 +72,6 @@ returns-in_err-join_part-clause-steps g c =
     let levels = c.requires.levels.2 in
     let most = union_bound c.args.store.now n c.args.parts.now c.requires.levels.1 c.requires.some c.requires.fits levels in
     let is = c.as_slice-wide.ensures.value ∙ c.in_ok-shape.ensures.ok in
-    let taken = ap (λ (m : Count). m.taken) c.in_ok-shape.ensures.still in
-    let limit = ap (λ (m : Count). m.limit) c.in_ok-shape.ensures.still in
     let at = slice_get_read c.args.parts.now (length c.args.parts.now) c.loop-part.part-index c.part-item.result refl c.loop-part-test.true c.part-item.is in
     let k = c.loop-part.part-index in
     let part = c.part-item.result in
@@ -84,10 +82,10 @@ returns-in_err-join_part-clause-steps g c =
     let same_budget : budget (lower c.as_slice-wide.result.now) ≡ budget (lower (united_shapes (map shape_of c.args.parts.now))) = ap (λ u. budget (lower u)) is in
     let front = front_sum c.args.parts.now k part at in
     let long = c.loop-part.invariant.joined.long in
-    let part_most = loop_most (length c.loop-part.pairs) (first_choices part) (sum_by first_choices c.args.parts.now) (budget (lower c.as_slice-wide.result.now)) c.united_all.new.steps.taken c.loop-part.steps.taken (c.loop-part.steps.taken + owed (prices_of (lower c.as_slice-wide.result.now)) (is_done (memo_at c.loop-part.memo)) r.0) (omega (arith, long, front)) c.loop-part.invariant.cost (omega (arith, r.2)) in
+    let part_most = loop_most (length c.loop-part.pairs) (first_choices part) (sum_by first_choices c.args.parts.now) (budget (lower c.as_slice-wide.result.now)) c.args.steps.now.taken c.loop-part.steps.taken (c.loop-part.steps.taken + owed (prices_of (lower c.as_slice-wide.result.now)) (is_done (memo_at c.loop-part.memo)) r.0) (omega (arith, long, front)) c.loop-part.invariant.cost (omega (arith, r.2)) in
     let same_most : (sum_by first_choices c.args.parts.now) * (2 * (budget (lower c.as_slice-wide.result.now))) ≡ (sum_by first_choices c.args.parts.now) * (2 * budget (lower (united_shapes (map shape_of c.args.parts.now)))) = ap (λ b. (sum_by first_choices c.args.parts.now) * (2 * b)) same_budget in
     let h = c.join_part.ensures.cheap r.0 r.1 in
-    omega (arith, most, part_most, same_most, h, taken)
+    omega (arith, most, part_most, same_most, h)
 
 pub returns-in_err-join_part-clause-refused : goal.returns-in_err-join_part-clause-refused
 returns-in_err-join_part-clause-refused g c =
@@ -95,8 +93,6 @@ returns-in_err-join_part-clause-refused g c =
     let levels = c.requires.levels.2 in
     let most = union_bound c.args.store.now n c.args.parts.now c.requires.levels.1 c.requires.some c.requires.fits levels in
     let is = c.as_slice-wide.ensures.value ∙ c.in_ok-shape.ensures.ok in
-    let taken = ap (λ (m : Count). m.taken) c.in_ok-shape.ensures.still in
-    let limit = ap (λ (m : Count). m.limit) c.in_ok-shape.ensures.still in
     let at = slice_get_read c.args.parts.now (length c.args.parts.now) c.loop-part.part-index c.part-item.result refl c.loop-part-test.true c.part-item.is in
     let k = c.loop-part.part-index in
     let part = c.part-item.result in
@@ -107,11 +103,11 @@ returns-in_err-join_part-clause-refused g c =
     let same_budget : budget (lower c.as_slice-wide.result.now) ≡ budget (lower (united_shapes (map shape_of c.args.parts.now))) = ap (λ u. budget (lower u)) is in
     let front = front_sum c.args.parts.now k part at in
     let long = c.loop-part.invariant.joined.long in
-    let part_most = loop_most (length c.loop-part.pairs) (first_choices part) (sum_by first_choices c.args.parts.now) (budget (lower c.as_slice-wide.result.now)) c.united_all.new.steps.taken c.loop-part.steps.taken (c.loop-part.steps.taken + owed (prices_of (lower c.as_slice-wide.result.now)) (is_done (memo_at c.loop-part.memo)) r.0) (omega (arith, long, front)) c.loop-part.invariant.cost (omega (arith, r.2)) in
+    let part_most = loop_most (length c.loop-part.pairs) (first_choices part) (sum_by first_choices c.args.parts.now) (budget (lower c.as_slice-wide.result.now)) c.args.steps.now.taken c.loop-part.steps.taken (c.loop-part.steps.taken + owed (prices_of (lower c.as_slice-wide.result.now)) (is_done (memo_at c.loop-part.memo)) r.0) (omega (arith, long, front)) c.loop-part.invariant.cost (omega (arith, r.2)) in
     let same_most : (sum_by first_choices c.args.parts.now) * (2 * (budget (lower c.as_slice-wide.result.now))) ≡ (sum_by first_choices c.args.parts.now) * (2 * budget (lower (united_shapes (map shape_of c.args.parts.now)))) = ap (λ b. (sum_by first_choices c.args.parts.now) * (2 * b)) same_budget in
     passed_on _ c.from_residual-in_err-join_part.result c.in_err-join_part.field-0.0 c.from_residual-in_err-join_part.ensures
-    (GivesUp-within c.args.steps.now c.loop-part.steps c.join_part.new.steps (owed (prices_of (lower c.as_slice-wide.result.now)) (is_done (memo_at c.loop-part.memo)) r.0) (2 * words (united_shapes (map shape_of c.args.parts.now)) * 2 ^ (length (united_shapes (map shape_of c.args.parts.now)) + 1)) _ (c.loop-part.invariant.limit ∙ limit)
-        (omega (arith, most, part_most, same_most, taken)) (c.in_err-join_part.ensures.refused r.0 r.1))
+    (GivesUp-within c.args.steps.now c.loop-part.steps c.join_part.new.steps (owed (prices_of (lower c.as_slice-wide.result.now)) (is_done (memo_at c.loop-part.memo)) r.0) (2 * words (united_shapes (map shape_of c.args.parts.now)) * 2 ^ (length (united_shapes (map shape_of c.args.parts.now)) + 1)) _ c.loop-part.invariant.limit
+        (omega (arith, most, part_most, same_most)) (c.in_err-join_part.ensures.refused r.0 r.1))
 
 pub loop-part-preserved : goal.loop-part-preserved
 loop-part-preserved g c =
@@ -133,7 +129,7 @@ loop-part-preserved g c =
       paid = c.join_part.ensures.paid;
       limit = c.join_part.ensures.limit ∙ c.loop-part.invariant.limit;
       memo = c.in_ok-join_part.ensures.memo;
-      cost = loop_step (length c.loop-part.pairs) (first_choices part) (length c.join_part.new.pairs) (budget (lower c.as_slice-wide.result.now)) c.united_all.new.steps.taken c.loop-part.steps.taken c.join_part.new.steps.taken
+      cost = loop_step (length c.loop-part.pairs) (first_choices part) (length c.join_part.new.pairs) (budget (lower c.as_slice-wide.result.now)) c.args.steps.now.taken c.loop-part.steps.taken c.join_part.new.steps.taken
           (ap length pairs.is ∙ length-append c.loop-part.pairs pairs.added ∙ ap (λ m. length c.loop-part.pairs + m) pairs.long) c.loop-part.invariant.cost (omega (arith, h, r.2));
       joined = subst (λ l. IsJoined c.args.store.now c.join_part.new.store (lower c.as_slice-wide.result.now) l c.join_part.new.pairs) (sym (front_more c.args.parts.now k part at))
           (join_step c.args.store.now c.loop-part.store c.join_part.new.store c.loop-part.invariant.keeps c.join_part.ensures.keeps (lower c.as_slice-wide.result.now) (take k c.args.parts.now) part c.loop-part.pairs c.join_part.new.pairs start c.loop-part.invariant.joined pairs);
@@ -143,13 +139,13 @@ pub node_of-requires-clause-some : goal.node_of-requires-clause-some
 node_of-requires-clause-some g c =
     let n = c.requires.levels.0 in
     let levels = c.requires.levels.2 in
-    let over : take c.loop-part.part-index c.args.parts.now ≡ c.args.parts.now = take_all c.args.parts.now c.loop-part-test.false in
+    let over : take c.loop-part.part-index c.args.parts.now ≡ c.args.parts.now = take_all c.args.parts.now c.loop-part.part-index c.loop-part-test.false in
     let joined = subst (λ l. IsJoined c.args.store.now c.loop-part.store (lower c.as_slice-wide.result.now) l c.loop-part.pairs) over c.loop-part.invariant.joined in
     omega (arith, joined.long, union_first c.args.store.now n c.args.parts.now c.requires.levels.1 c.requires.some c.requires.fits levels)
 
 pub node_of-requires-clause-heights : goal.node_of-requires-clause-heights
 node_of-requires-clause-heights g c =
-    let over : take c.loop-part.part-index c.args.parts.now ≡ c.args.parts.now = take_all c.args.parts.now c.loop-part-test.false in
+    let over : take c.loop-part.part-index c.args.parts.now ≡ c.args.parts.now = take_all c.args.parts.now c.loop-part.part-index c.loop-part-test.false in
     let joined = subst (λ l. IsJoined c.args.store.now c.loop-part.store (lower c.as_slice-wide.result.now) l c.loop-part.pairs) over c.loop-part.invariant.joined in
     joined_heights c.args.store.now c.loop-part.store (lower c.as_slice-wide.result.now) c.args.parts.now c.loop-part.pairs joined
 
@@ -159,14 +155,12 @@ returns-in_err-root-clause-steps g c =
     let levels = c.requires.levels.2 in
     let most = union_bound c.args.store.now n c.args.parts.now c.requires.levels.1 c.requires.some c.requires.fits levels in
     let is = c.as_slice-wide.ensures.value ∙ c.in_ok-shape.ensures.ok in
-    let taken = ap (λ (m : Count). m.taken) c.in_ok-shape.ensures.still in
-    let limit = ap (λ (m : Count). m.limit) c.in_ok-shape.ensures.still in
     let same_budget : budget (lower c.as_slice-wide.result.now) ≡ budget (lower (united_shapes (map shape_of c.args.parts.now))) = ap (λ u. budget (lower u)) is in
-    let over : take c.loop-part.part-index c.args.parts.now ≡ c.args.parts.now = take_all c.args.parts.now c.loop-part-test.false in
+    let over : take c.loop-part.part-index c.args.parts.now ≡ c.args.parts.now = take_all c.args.parts.now c.loop-part.part-index c.loop-part-test.false in
     let joined = subst (λ l. IsJoined c.args.store.now c.loop-part.store (lower c.as_slice-wide.result.now) l c.loop-part.pairs) over c.loop-part.invariant.joined in
-    let end_most = loop_end (length c.loop-part.pairs) (sum_by first_choices c.args.parts.now) (budget (lower c.as_slice-wide.result.now)) c.united_all.new.steps.taken c.loop-part.steps.taken joined.long c.loop-part.invariant.cost in
+    let end_most = loop_end (length c.loop-part.pairs) (sum_by first_choices c.args.parts.now) (budget (lower c.as_slice-wide.result.now)) c.args.steps.now.taken c.loop-part.steps.taken joined.long c.loop-part.invariant.cost in
     let same_most : (sum_by first_choices c.args.parts.now) * (2 * (budget (lower c.as_slice-wide.result.now))) ≡ (sum_by first_choices c.args.parts.now) * (2 * budget (lower (united_shapes (map shape_of c.args.parts.now)))) = ap (λ b. (sum_by first_choices c.args.parts.now) * (2 * b)) same_budget in
-    omega (arith, most, end_most, same_most, joined.long, c.node_of.ensures.cheap, taken)
+    omega (arith, most, end_most, same_most, joined.long, c.node_of.ensures.cheap)
 
 pub returns-in_err-root-clause-refused : goal.returns-in_err-root-clause-refused
 returns-in_err-root-clause-refused g c =
@@ -174,16 +168,14 @@ returns-in_err-root-clause-refused g c =
     let levels = c.requires.levels.2 in
     let most = union_bound c.args.store.now n c.args.parts.now c.requires.levels.1 c.requires.some c.requires.fits levels in
     let is = c.as_slice-wide.ensures.value ∙ c.in_ok-shape.ensures.ok in
-    let taken = ap (λ (m : Count). m.taken) c.in_ok-shape.ensures.still in
-    let limit = ap (λ (m : Count). m.limit) c.in_ok-shape.ensures.still in
     let same_budget : budget (lower c.as_slice-wide.result.now) ≡ budget (lower (united_shapes (map shape_of c.args.parts.now))) = ap (λ u. budget (lower u)) is in
-    let over : take c.loop-part.part-index c.args.parts.now ≡ c.args.parts.now = take_all c.args.parts.now c.loop-part-test.false in
+    let over : take c.loop-part.part-index c.args.parts.now ≡ c.args.parts.now = take_all c.args.parts.now c.loop-part.part-index c.loop-part-test.false in
     let joined = subst (λ l. IsJoined c.args.store.now c.loop-part.store (lower c.as_slice-wide.result.now) l c.loop-part.pairs) over c.loop-part.invariant.joined in
-    let end_most = loop_end (length c.loop-part.pairs) (sum_by first_choices c.args.parts.now) (budget (lower c.as_slice-wide.result.now)) c.united_all.new.steps.taken c.loop-part.steps.taken joined.long c.loop-part.invariant.cost in
+    let end_most = loop_end (length c.loop-part.pairs) (sum_by first_choices c.args.parts.now) (budget (lower c.as_slice-wide.result.now)) c.args.steps.now.taken c.loop-part.steps.taken joined.long c.loop-part.invariant.cost in
     let same_most : (sum_by first_choices c.args.parts.now) * (2 * (budget (lower c.as_slice-wide.result.now))) ≡ (sum_by first_choices c.args.parts.now) * (2 * budget (lower (united_shapes (map shape_of c.args.parts.now)))) = ap (λ b. (sum_by first_choices c.args.parts.now) * (2 * b)) same_budget in
     passed_on _ c.from_residual-in_err-root.result c.in_err-root.field-0.0 c.from_residual-in_err-root.ensures
-    (GivesUp-within c.args.steps.now c.loop-part.steps c.node_of.new.steps (length c.loop-part.pairs) (2 * words (united_shapes (map shape_of c.args.parts.now)) * 2 ^ (length (united_shapes (map shape_of c.args.parts.now)) + 1)) _ (c.loop-part.invariant.limit ∙ limit)
-        (omega (arith, most, end_most, same_most, joined.long, taken)) (refused_gives_up _ _ _ _ _ _ c.in_err-root.ensures.adds))
+    (GivesUp-within c.args.steps.now c.loop-part.steps c.node_of.new.steps (length c.loop-part.pairs) (2 * words (united_shapes (map shape_of c.args.parts.now)) * 2 ^ (length (united_shapes (map shape_of c.args.parts.now)) + 1)) _ c.loop-part.invariant.limit
+        (omega (arith, most, end_most, same_most, joined.long)) (refused_gives_up _ _ _ _ _ _ c.in_err-root.ensures.adds))
 
 pub returns-clause-steps : goal.returns-clause-steps
 returns-clause-steps g c =
@@ -191,21 +183,19 @@ returns-clause-steps g c =
     let levels = c.requires.levels.2 in
     let most = union_bound c.args.store.now n c.args.parts.now c.requires.levels.1 c.requires.some c.requires.fits levels in
     let is = c.as_slice-wide.ensures.value ∙ c.in_ok-shape.ensures.ok in
-    let taken = ap (λ (m : Count). m.taken) c.in_ok-shape.ensures.still in
-    let limit = ap (λ (m : Count). m.limit) c.in_ok-shape.ensures.still in
     let same_budget : budget (lower c.as_slice-wide.result.now) ≡ budget (lower (united_shapes (map shape_of c.args.parts.now))) = ap (λ u. budget (lower u)) is in
-    let over : take c.loop-part.part-index c.args.parts.now ≡ c.args.parts.now = take_all c.args.parts.now c.loop-part-test.false in
+    let over : take c.loop-part.part-index c.args.parts.now ≡ c.args.parts.now = take_all c.args.parts.now c.loop-part.part-index c.loop-part-test.false in
     let joined = subst (λ l. IsJoined c.args.store.now c.loop-part.store (lower c.as_slice-wide.result.now) l c.loop-part.pairs) over c.loop-part.invariant.joined in
-    let end_most = loop_end (length c.loop-part.pairs) (sum_by first_choices c.args.parts.now) (budget (lower c.as_slice-wide.result.now)) c.united_all.new.steps.taken c.loop-part.steps.taken joined.long c.loop-part.invariant.cost in
+    let end_most = loop_end (length c.loop-part.pairs) (sum_by first_choices c.args.parts.now) (budget (lower c.as_slice-wide.result.now)) c.args.steps.now.taken c.loop-part.steps.taken joined.long c.loop-part.invariant.cost in
     let same_most : (sum_by first_choices c.args.parts.now) * (2 * (budget (lower c.as_slice-wide.result.now))) ≡ (sum_by first_choices c.args.parts.now) * (2 * budget (lower (united_shapes (map shape_of c.args.parts.now)))) = ap (λ b. (sum_by first_choices c.args.parts.now) * (2 * b)) same_budget in
-    omega (arith, most, end_most, same_most, joined.long, c.node_of.ensures.cheap, taken)
+    omega (arith, most, end_most, same_most, joined.long, c.node_of.ensures.cheap)
 
 pub returns-clause-united : goal.returns-clause-united
 returns-clause-united g c =
     let n = c.requires.levels.0 in
     let levels = c.requires.levels.2 in
     let is = c.as_slice-wide.ensures.value ∙ c.in_ok-shape.ensures.ok in
-    let over : take c.loop-part.part-index c.args.parts.now ≡ c.args.parts.now = take_all c.args.parts.now c.loop-part-test.false in
+    let over : take c.loop-part.part-index c.args.parts.now ≡ c.args.parts.now = take_all c.args.parts.now c.loop-part.part-index c.loop-part-test.false in
     let joined = subst (λ l. IsJoined c.args.store.now c.loop-part.store (lower c.as_slice-wide.result.now) l c.loop-part.pairs) over c.loop-part.invariant.joined in
     let whole = subst (λ u. IsJoined c.args.store.now c.loop-part.store (lower u) c.args.parts.now c.loop-part.pairs) c.as_slice-wide.ensures.value joined in
     let some = union_first c.args.store.now n c.args.parts.now c.requires.levels.1 c.requires.some c.requires.fits levels in
