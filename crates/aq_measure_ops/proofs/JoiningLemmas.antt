@@ -89,7 +89,7 @@ module _ {L : Type 0} where
           let found : slice_get a.added c ≡ Some q = sym (slice_get-append_right pairs a.added (length pairs + c) c refl) ∙ in_all (length pairs + c) q (ap (slice_get all) (sym place) ∙ here) in
           subst (λ (p : Lsta). MeansPair (under (Padded start p.shape.items (first_choices p ∷ below) p.root) c) new below q) is
           (MeansPair-same (under (Padded old part.shape.items (first_choices part ∷ below) part.root) c) (under (Padded start part.shape.items (first_choices part ∷ below) part.root) c) new below q
-              (λ word v. padded-Extends start old x part.shape.items (first_choices part ∷ below) part.root s (c ∷ word) v) (a.mean.each c q found))
+          (λ word v. padded-Extends start old x part.shape.items (first_choices part ∷ below) part.root s (c ∷ word) v) (a.mean.each c q found))
         where
           first_is : (i : ℕ) (other : Lsta) → i < 1 → slice_get (part ∷ []) i ≡ Some other → part ≡ other
           first_is zero other lt e = cc
@@ -161,8 +161,7 @@ module _ {L : Type 0} (table : List (Node L)) where
   union_some : (n : ℕ) (parts : List Lsta) → 0 < length parts → AllFit table parts → HaveLevels n parts → IsSome (united_shapes (map shape_of parts)) × (length (united_shapes (map shape_of parts)) ≡ n)
   union_some n parts some fits levels =
       let first = slice_get-some parts 0 some in
-      let wide = part_wider n parts 0 first.0 levels first.1 in
-      (
+      let wide = part_wider n parts 0 first.0 levels first.1 in (
         wider-some first.0.shape.items (united_shapes (map shape_of parts)) wide (positive table first.0.shape.items first.0.root (fits.each 0 first.0 first.1)),
         sym (wider-length first.0.shape.items (united_shapes (map shape_of parts)) wide) ∙ levels.each 0 first.0 first.1,
       )
@@ -178,7 +177,7 @@ module _ {L : Type 0} (table : List (Node L)) where
   -- the bound on a union
   pub union_bound : (n : ℕ) (parts : List Lsta) → 0 < n → 0 < length parts → AllFit table parts → HaveLevels n parts
       → sum_by first_choices parts + 1 + sum_by first_choices parts * (2 * budget (lower (united_shapes (map shape_of parts))))
-          ≤ 2 * words (united_shapes (map shape_of parts)) * 2 ^ (length (united_shapes (map shape_of parts)) + 1)
+      ≤ 2 * words (united_shapes (map shape_of parts)) * 2 ^ (length (united_shapes (map shape_of parts)) + 1)
   unfolding budget
   union_bound n parts more some fits levels =
       let u = union_some n parts some fits levels in

@@ -150,11 +150,14 @@ module _ {L : Type 0} (table : List (Node L)) where
       let below = children_shaped m shape (root ∷ []) all in
       let b = owed_bound none new shape wide here w below in
       let d = ap (λ k. k * budget wide) (length-children m shape (root ∷ []) all) in
-      let one : 2 * m * 1 * budget wide ≡ 2 * m * budget wide = omega arith in
-      (all_levels shape here, record {
-        each = λ c p at. record {
-          closed = are_levels shape here below;
-          left = subst (IsIn p.0) (sym (first-all_levels shape here)) (children_left (root ∷ []) 0 root c p refl at);
-          right = subst (IsIn p.1) (sym (first-all_levels shape here)) (children_right (root ∷ []) 0 root c p refl at);
-        };
-      }, omega arith)
+      let one : 2 * m * 1 * budget wide ≡ 2 * m * budget wide = omega arith in (
+        all_levels shape here,
+        record {
+          each = λ c p at. record {
+            closed = are_levels shape here below;
+            left = subst (IsIn p.0) (sym (first-all_levels shape here)) (children_left (root ∷ []) 0 root c p refl at);
+            right = subst (IsIn p.1) (sym (first-all_levels shape here)) (children_right (root ∷ []) 0 root c p refl at);
+          };
+        },
+        omega arith,
+      )

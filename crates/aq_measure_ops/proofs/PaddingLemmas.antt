@@ -154,9 +154,9 @@ module _ {L : Type 0} where
           let at = run_choice (pairs_at start id) index count (min c (number - 1)) p here le lt in
           MeansPair-same (PaddedPair old below wide p) (under (Padded start above (all ∷ wide) id) c) new wide q
           (λ word v h w.
-              padded_pair-Extends start old x below wide p (o.3.left (min c (number - 1)) p at) (o.3.right (min c (number - 1)) p at) word v h w.1
-              ∙ sym (tree-choice start id (min c (number - 1)) (shortened below word) p at)
-              ∙ ap (λ u. tree start (shortened u (c ∷ word)) id) (sym split))
+          padded_pair-Extends start old x below wide p (o.3.left (min c (number - 1)) p at) (o.3.right (min c (number - 1)) p at) word v h w.1
+          ∙ sym (tree-choice start id (min c (number - 1)) (shortened below word) p at)
+          ∙ ap (λ u. tree start (shortened u (c ∷ word)) id) (sym split))
           image
 
       grown : next ≡ before_all ++ (m.added ++ copies n q)
@@ -201,17 +201,17 @@ module _ {L : Type 0} where
       subst (λ u. Means (Padded start from u id) new u j) (sym split)
       (subst (λ k. Means (Padded start from (k ∷ below) id) new (k ∷ below) j) is
       (means_node (Padded start from (count ∷ below) id) new below count j qs made (ap length a.is ∙ a.long) (subst (λ k. 0 < k) (sym is) some)
-          (record { each = λ c q at. MeansPair-Extends (under (Padded start from (count ∷ below) id) c) last new x below q (a.mean.each c q (ap (λ l. slice_get l c) (sym a.is) ∙ at)) })
-          (λ w. absurd w)
-          (λ c word le w. absurd (let lt : c < count = w.0 in omega arith))))
+      (record { each = λ c q at. MeansPair-Extends (under (Padded start from (count ∷ below) id) c) last new x below q (a.mean.each c q (ap (λ l. slice_get l c) (sym a.is) ∙ at)) })
+      (λ w. absurd w)
+      (λ c word le w. absurd (let lt : c < count = w.0 in omega arith))))
 
   -- ---- the memo
   pub IsPadMemo-Extends : (old new : List (Node L)) → Extends old new → (to : List ℕ) (at : ℕ → Option ℕ) → IsPadMemo old to at → IsPadMemo new to at
   IsPadMemo-Extends old new x to at m = record {
     each = λ i j e.
         (let r = m.each i j e in
-          let below = drop (length to - length r.0) to in
-          (r.0, HasShape-Extends old new x r.0 i r.1, Means-same (Padded old r.0 below i) (Padded new r.0 below i) new below j (padded-Extended old new x r.0 below i r.1) (Means-Extends (Padded old r.0 below i) old new x below j r.2)));
+        let below = drop (length to - length r.0) to in
+        (r.0, HasShape-Extends old new x r.0 i r.1, Means-same (Padded old r.0 below i) (Padded new r.0 below i) new below j (padded-Extended old new x r.0 below i r.1) (Means-Extends (Padded old r.0 below i) old new x below j r.2)));
   }
 
   pub IsPadMemo-none : (table : List (Node L)) (to : List ℕ) (at : ℕ → Option ℕ) → ((q : ℕ) → at q ≡ None) → IsPadMemo table to at

@@ -22,7 +22,12 @@ pub struct Joined {
 
 /// The shape of the union of two shapes of one length, or of none and one. A root that has more choices than a counter has
 /// steps spends them all.
-fn united<L>(alloc: Global, left: &[u32], right: &[u32], steps: &mut Steps) -> Result<Vec<u32>, Stop<L>>
+fn united<L>(
+    alloc: Global,
+    left: &[u32],
+    right: &[u32],
+    steps: &mut Steps,
+) -> Result<Vec<u32>, Stop<L>>
     requires same { 0 < length left.now → length left.now ≡ length right.now }
     ensures ok { IfOk result (λ shape. shape.items ≡ united_shape left.now right.now) }
     ensures still { OnOk result (steps.new ≡ steps.old) }
@@ -65,9 +70,7 @@ fn united_all<L>(alloc: Global, parts: &[Lsta], steps: &mut Steps) -> Result<Vec
     ensures limit { steps.new.limit ≡ steps.old.limit }
     ensures later { steps.old.taken ≤ steps.new.taken }
     ensures cheap { steps.new.taken ≤ steps.old.taken + first_number (united_shapes (map shape_of parts.now)) }
-    ensures refused {
-        IfErr result (GivesUp (first_number (united_shapes (map shape_of parts.now))) steps.old steps.new)
-    }
+    ensures refused { IfErr result (GivesUp (first_number (united_shapes (map shape_of parts.now))) steps.old steps.new) }
 {
     let mut shape = Vec::new(alloc);
     for part in parts {
@@ -94,29 +97,21 @@ fn join_part<L: Label>(
     requires memo { IsPadMemo store.old shape.now (memo_at memo.old) }
     requires paid { total_cost store.old ≤ steps.old.taken }
     requires room { length pairs.old + first_choices part.now < 2 ^ 32 }
-    ensures pairs {
-        let number = first_choices part.now in
+    ensures pairs { let number = first_choices part.now in
         let below = lower shape.now in
         let meaning = Padded store.old part.now.shape.items (number ∷ below) part.now.root in
-        OnOk result (Appends meaning store.new below number pairs.old pairs.new)
-    }
+        OnOk result (Appends meaning store.new below number pairs.old pairs.new) }
     ensures memo { OnOk result (IsPadMemo store.new shape.now (memo_at memo.new)) }
     ensures done { (q : ℕ) → IsTrue (is_done (memo_at memo.old) q) → IsTrue (is_done (memo_at memo.new) q) }
     ensures keeps { Extends store.old store.new }
     ensures paid { total_cost store.new ≤ steps.new.taken }
     ensures limit { steps.new.limit ≡ steps.old.limit }
-    ensures cheap {
-        let holds = HoldPairs store.old (lower part.now.shape.items) part.now.root in
-        TakesOwed holds (lower shape.now) (memo_at memo.old) steps.old steps.new
-    }
-    ensures steps {
-        let holds = HoldPairs store.old (lower part.now.shape.items) part.now.root in
-        OnOk result (PaysOwed holds (lower shape.now) (memo_at memo.old) (memo_at memo.new) steps.old steps.new)
-    }
-    ensures refused {
-        let holds = HoldPairs store.old (lower part.now.shape.items) part.now.root in
-        IfErr result (StopsOwed holds (lower shape.now) (memo_at memo.old) steps.old steps.new)
-    }
+    ensures cheap { let holds = HoldPairs store.old (lower part.now.shape.items) part.now.root in
+        TakesOwed holds (lower shape.now) (memo_at memo.old) steps.old steps.new }
+    ensures steps { let holds = HoldPairs store.old (lower part.now.shape.items) part.now.root in
+        OnOk result (PaysOwed holds (lower shape.now) (memo_at memo.old) (memo_at memo.new) steps.old steps.new) }
+    ensures refused { let holds = HoldPairs store.old (lower part.now.shape.items) part.now.root in
+        IfErr result (StopsOwed holds (lower shape.now) (memo_at memo.old) steps.old steps.new) }
 {
     let from = part.shape.as_slice();
     let same = same_from(from, shape);
@@ -144,14 +139,10 @@ pub fn union<L: Label>(
     ensures keeps { Extends store.old store.new }
     ensures paid { total_cost store.new ≤ steps.new.taken }
     ensures limit { steps.new.limit ≡ steps.old.limit }
-    ensures steps {
-        let shape = united_shape left.now.shape.items right.now.shape.items in
-        steps.new.taken ≤ steps.old.taken + 2 * words shape * 2 ^ (length shape + 1)
-    }
-    ensures refused {
-        let shape = united_shape left.now.shape.items right.now.shape.items in
-        IfErr result (GivesUp (2 * words shape * 2 ^ (length shape + 1)) steps.old steps.new)
-    }
+    ensures steps { let shape = united_shape left.now.shape.items right.now.shape.items in
+        steps.new.taken ≤ steps.old.taken + 2 * words shape * 2 ^ (length shape + 1) }
+    ensures refused { let shape = united_shape left.now.shape.items right.now.shape.items in
+        IfErr result (GivesUp (2 * words shape * 2 ^ (length shape + 1)) steps.old steps.new) }
 {
     let first = left.shape.as_slice();
     let second = right.shape.as_slice();
@@ -186,14 +177,10 @@ pub fn union_of<L: Label>(
     ensures keeps { Extends store.old store.new }
     ensures paid { total_cost store.new ≤ steps.new.taken }
     ensures limit { steps.new.limit ≡ steps.old.limit }
-    ensures steps {
-        let shape = united_shapes (map shape_of parts.now) in
-        steps.new.taken ≤ steps.old.taken + 2 * words shape * 2 ^ (length shape + 1)
-    }
-    ensures refused {
-        let shape = united_shapes (map shape_of parts.now) in
-        IfErr result (GivesUp (2 * words shape * 2 ^ (length shape + 1)) steps.old steps.new)
-    }
+    ensures steps { let shape = united_shapes (map shape_of parts.now) in
+        steps.new.taken ≤ steps.old.taken + 2 * words shape * 2 ^ (length shape + 1) }
+    ensures refused { let shape = united_shapes (map shape_of parts.now) in
+        IfErr result (GivesUp (2 * words shape * 2 ^ (length shape + 1)) steps.old steps.new) }
 {
     let shape = united_all(alloc, parts, steps)?;
     let wide = shape.as_slice();

@@ -54,27 +54,19 @@ fn pad_at<L: Label>(
     requires deep { depth ≤ length from.now }
     requires memo { IsPadMemo store.old to.now (memo_at memo.old) }
     requires paid { total_cost store.old ≤ steps.old.taken }
-    ensures image {
-        let below = drop depth to.now in
-        IfOk result (λ made. Means (Padded store.old (drop depth from.now) below id) store.new below made)
-    }
+    ensures image { let below = drop depth to.now in
+        IfOk result (λ made. Means (Padded store.old (drop depth from.now) below id) store.new below made) }
     ensures memo { OnOk result (IsPadMemo store.new to.now (memo_at memo.new)) }
     ensures done { (q : ℕ) → IsTrue (is_done (memo_at memo.old) q) → IsTrue (is_done (memo_at memo.new) q) }
     ensures keeps { Extends store.old store.new }
     ensures paid { total_cost store.new ≤ steps.new.taken }
     ensures limit { steps.new.limit ≡ steps.old.limit }
-    ensures cheap {
-        let holds = HoldPlace store.old (drop depth from.now) id in
-        TakesOwed holds (drop depth to.now) (memo_at memo.old) steps.old steps.new
-    }
-    ensures steps {
-        let holds = HoldPlace store.old (drop depth from.now) id in
-        OnOk result (PaysOwed holds (drop depth to.now) (memo_at memo.old) (memo_at memo.new) steps.old steps.new)
-    }
-    ensures refused {
-        let holds = HoldPlace store.old (drop depth from.now) id in
-        IfErr result (StopsOwed holds (drop depth to.now) (memo_at memo.old) steps.old steps.new)
-    }
+    ensures cheap { let holds = HoldPlace store.old (drop depth from.now) id in
+        TakesOwed holds (drop depth to.now) (memo_at memo.old) steps.old steps.new }
+    ensures steps { let holds = HoldPlace store.old (drop depth from.now) id in
+        OnOk result (PaysOwed holds (drop depth to.now) (memo_at memo.old) (memo_at memo.new) steps.old steps.new) }
+    ensures refused { let holds = HoldPlace store.old (drop depth from.now) id in
+        IfErr result (StopsOwed holds (drop depth to.now) (memo_at memo.old) steps.old steps.new) }
 {
     if depth >= same {
         return Ok(id);
@@ -115,45 +107,27 @@ pub(crate) fn pad_runs<L: Label>(
     requires memo { IsPadMemo store.old to.now (memo_at memo.old) }
     requires paid { total_cost store.old ≤ steps.old.taken }
     requires room { length pairs.old + (slice_index from.now depth + more) < 2 ^ 32 }
-    ensures pairs {
-        let number = slice_index from.now depth + more in
+    ensures pairs { let number = slice_index from.now depth + more in
         let below = drop (depth + 1) to.now in
         let meaning = Padded store.old (drop depth from.now) (number ∷ below) id in
-        OnOk result (Appends meaning store.new below number pairs.old pairs.new)
-    }
+        OnOk result (Appends meaning store.new below number pairs.old pairs.new) }
     ensures memo { OnOk result (IsPadMemo store.new to.now (memo_at memo.new)) }
     ensures done { (q : ℕ) → IsTrue (is_done (memo_at memo.old) q) → IsTrue (is_done (memo_at memo.new) q) }
     ensures keeps { Extends store.old store.new }
     ensures paid { total_cost store.new ≤ steps.new.taken }
     ensures limit { steps.new.limit ≡ steps.old.limit }
-    ensures cheap {
-        let holds = HoldPairs store.old (drop (depth + 1) from.now) id in
-        TakesOwed holds (drop (depth + 1) to.now) (memo_at memo.old) steps.old steps.new
-    }
-    ensures steps {
-        let holds = HoldPairs store.old (drop (depth + 1) from.now) id in
+    ensures cheap { let holds = HoldPairs store.old (drop (depth + 1) from.now) id in
+        TakesOwed holds (drop (depth + 1) to.now) (memo_at memo.old) steps.old steps.new }
+    ensures steps { let holds = HoldPairs store.old (drop (depth + 1) from.now) id in
         let below = drop (depth + 1) to.now in
-        OnOk result (PaysOwed holds below (memo_at memo.old) (memo_at memo.new) steps.old steps.new)
-    }
-    ensures refused {
-        let holds = HoldPairs store.old (drop (depth + 1) from.now) id in
-        IfErr result (StopsOwed holds (drop (depth + 1) to.now) (memo_at memo.old) steps.old steps.new)
-    }
+        OnOk result (PaysOwed holds below (memo_at memo.old) (memo_at memo.new) steps.old steps.new) }
+    ensures refused { let holds = HoldPairs store.old (drop (depth + 1) from.now) id in
+        IfErr result (StopsOwed holds (drop (depth + 1) to.now) (memo_at memo.old) steps.old steps.new) }
 {
     let runs = store.run_count(id);
     for index in 0..runs {
         let (pair, count) = store.run(id, index);
-        let made = pad_pair(
-            alloc,
-            store,
-            memo,
-            from,
-            to,
-            same,
-            depth + 1,
-            pair,
-            steps,
-        )?;
+        let made = pad_pair(alloc, store, memo, from, to, same, depth + 1, pair, steps)?;
         let count = lengthened(count, more, index + 1 == runs);
         let Ok(()) = pairs.push(made, count) else {
             return Err(Stop::Memory);
@@ -183,35 +157,23 @@ fn pad_pair<L: Label>(
     requires deep { depth ≤ length from.now }
     requires memo { IsPadMemo store.old to.now (memo_at memo.old) }
     requires paid { total_cost store.old ≤ steps.old.taken }
-    ensures image {
-        let below = drop depth to.now in
-        IfOk result (λ made. MeansPair (PaddedPair store.old (drop depth from.now) below pair) store.new below made)
-    }
+    ensures image { let below = drop depth to.now in
+        IfOk result (λ made. MeansPair (PaddedPair store.old (drop depth from.now) below pair) store.new below made) }
     ensures memo { OnOk result (IsPadMemo store.new to.now (memo_at memo.new)) }
     ensures done { (q : ℕ) → IsTrue (is_done (memo_at memo.old) q) → IsTrue (is_done (memo_at memo.new) q) }
     ensures keeps { Extends store.old store.new }
     ensures paid { total_cost store.new ≤ steps.new.taken }
     ensures limit { steps.new.limit ≡ steps.old.limit }
-    ensures cheap {
-        let holds = HoldPair store.old (drop depth from.now) pair in
-        TakesOwed holds (drop depth to.now) (memo_at memo.old) steps.old steps.new
-    }
-    ensures steps {
-        let holds = HoldPair store.old (drop depth from.now) pair in
-        OnOk result (PaysOwed holds (drop depth to.now) (memo_at memo.old) (memo_at memo.new) steps.old steps.new)
-    }
-    ensures refused {
-        let holds = HoldPair store.old (drop depth from.now) pair in
-        IfErr result (StopsOwed holds (drop depth to.now) (memo_at memo.old) steps.old steps.new)
-    }
+    ensures cheap { let holds = HoldPair store.old (drop depth from.now) pair in
+        TakesOwed holds (drop depth to.now) (memo_at memo.old) steps.old steps.new }
+    ensures steps { let holds = HoldPair store.old (drop depth from.now) pair in
+        OnOk result (PaysOwed holds (drop depth to.now) (memo_at memo.old) (memo_at memo.new) steps.old steps.new) }
+    ensures refused { let holds = HoldPair store.old (drop depth from.now) pair in
+        IfErr result (StopsOwed holds (drop depth to.now) (memo_at memo.old) steps.old steps.new) }
 {
     let (left, right) = pair;
-    let first = pad_at(
-        alloc, store, memo, from, to, same, depth, left, steps,
-    )?;
-    let second = pad_at(
-        alloc, store, memo, from, to, same, depth, right, steps,
-    )?;
+    let first = pad_at(alloc, store, memo, from, to, same, depth, left, steps)?;
+    let second = pad_at(alloc, store, memo, from, to, same, depth, right, steps)?;
     Ok((first, second))
 }
 

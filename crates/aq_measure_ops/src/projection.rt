@@ -33,28 +33,20 @@ fn project_at<L: Label>(
     requires zero { IsBlank L.parts store.old (drop (qubit + 1) shape.now) zero }
     requires memo { IsMemo L.parts qubit outcome store.old shape.now (memo_at memo.old) }
     requires paid { total_cost store.old ≤ steps.old.taken }
-    ensures image {
-        let change = of_place (Projects L.parts (length shape.now) qubit outcome) store.old id in
-        IfOk result (λ made. Means change store.new (drop depth shape.now) made)
-    }
+    ensures image { let change = of_place (Projects L.parts (length shape.now) qubit outcome) store.old id in
+        IfOk result (λ made. Means change store.new (drop depth shape.now) made) }
     ensures memo { OnOk result (IsMemo L.parts qubit outcome store.new shape.now (memo_at memo.new)) }
     ensures done { (q : ℕ) → IsTrue (is_done (memo_at memo.old) q) → IsTrue (is_done (memo_at memo.new) q) }
     ensures keeps { Extends store.old store.new }
     ensures paid { total_cost store.new ≤ steps.new.taken }
     ensures limit { steps.new.limit ≡ steps.old.limit }
-    ensures cheap {
-        let below = drop depth shape.now in
-        TakesOwed (HoldPlace store.old below id) below (memo_at memo.old) steps.old steps.new
-    }
-    ensures steps {
-        let below = drop depth shape.now in
+    ensures cheap { let below = drop depth shape.now in
+        TakesOwed (HoldPlace store.old below id) below (memo_at memo.old) steps.old steps.new }
+    ensures steps { let below = drop depth shape.now in
         let holds = HoldPlace store.old below id in
-        OnOk result (PaysOwed holds below (memo_at memo.old) (memo_at memo.new) steps.old steps.new)
-    }
-    ensures refused {
-        let below = drop depth shape.now in
-        IfErr result (StopsOwed (HoldPlace store.old below id) below (memo_at memo.old) steps.old steps.new)
-    }
+        OnOk result (PaysOwed holds below (memo_at memo.old) (memo_at memo.new) steps.old steps.new) }
+    ensures refused { let below = drop depth shape.now in
+        IfErr result (StopsOwed (HoldPlace store.old below id) below (memo_at memo.old) steps.old steps.new) }
 {
     if let Some(made) = memo.get(id) {
         return Ok(made);
@@ -96,28 +88,20 @@ fn project_pair<L: Label>(
     requires zero { IsBlank L.parts store.old (drop (qubit + 1) shape.now) zero }
     requires memo { IsMemo L.parts qubit outcome store.old shape.now (memo_at memo.old) }
     requires paid { total_cost store.old ≤ steps.old.taken }
-    ensures image {
-        let change = of_pair (Projects L.parts (length shape.now) qubit outcome) store.old pair in
-        IfOk result (λ made. MeansPair change store.new (drop (depth + 1) shape.now) made)
-    }
+    ensures image { let change = of_pair (Projects L.parts (length shape.now) qubit outcome) store.old pair in
+        IfOk result (λ made. MeansPair change store.new (drop (depth + 1) shape.now) made) }
     ensures memo { OnOk result (IsMemo L.parts qubit outcome store.new shape.now (memo_at memo.new)) }
     ensures done { (q : ℕ) → IsTrue (is_done (memo_at memo.old) q) → IsTrue (is_done (memo_at memo.new) q) }
     ensures keeps { Extends store.old store.new }
     ensures paid { total_cost store.new ≤ steps.new.taken }
     ensures limit { steps.new.limit ≡ steps.old.limit }
-    ensures cheap {
-        let below = drop (depth + 1) shape.now in
-        TakesOwed (HoldPair store.old below pair) below (memo_at memo.old) steps.old steps.new
-    }
-    ensures steps {
-        let below = drop (depth + 1) shape.now in
+    ensures cheap { let below = drop (depth + 1) shape.now in
+        TakesOwed (HoldPair store.old below pair) below (memo_at memo.old) steps.old steps.new }
+    ensures steps { let below = drop (depth + 1) shape.now in
         let holds = HoldPair store.old below pair in
-        OnOk result (PaysOwed holds below (memo_at memo.old) (memo_at memo.new) steps.old steps.new)
-    }
-    ensures refused {
-        let below = drop (depth + 1) shape.now in
-        IfErr result (StopsOwed (HoldPair store.old below pair) below (memo_at memo.old) steps.old steps.new)
-    }
+        OnOk result (PaysOwed holds below (memo_at memo.old) (memo_at memo.new) steps.old steps.new) }
+    ensures refused { let below = drop (depth + 1) shape.now in
+        IfErr result (StopsOwed (HoldPair store.old below pair) below (memo_at memo.old) steps.old steps.new) }
 {
     let (left, right) = pair;
     if depth == qubit {
@@ -168,14 +152,10 @@ pub fn project<L: Label>(
     ensures keeps { Extends store.old store.new }
     ensures paid { total_cost store.new ≤ steps.new.taken }
     ensures limit { steps.new.limit ≡ steps.old.limit }
-    ensures steps {
-        let shape = lsta.now.shape.items in
-        steps.new.taken ≤ steps.old.taken + 2 * words shape * 2 ^ (length shape + 1)
-    }
-    ensures refused {
-        let shape = lsta.now.shape.items in
-        IfErr result (GivesUp (2 * words shape * 2 ^ (length shape + 1)) steps.old steps.new)
-    }
+    ensures steps { let shape = lsta.now.shape.items in
+        steps.new.taken ≤ steps.old.taken + 2 * words shape * 2 ^ (length shape + 1) }
+    ensures refused { let shape = lsta.now.shape.items in
+        IfErr result (GivesUp (2 * words shape * 2 ^ (length shape + 1)) steps.old steps.new) }
 {
     let shape = lsta.shape.as_slice();
     let zero = blank_from(alloc, store, shape, qubit as usize + 1, steps)?;

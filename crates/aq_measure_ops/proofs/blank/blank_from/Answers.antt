@@ -61,8 +61,8 @@ returns-in_err-id-2-clause-refused g c =
     let last = total_drops c.args.shape.now c.args.depth (c.loop-at.at - 1) (omega (arith, c.loop-at-test.true)) (omega (arith, c.loop-at.invariant.within)) in
     passed_on _ c.from_residual-in_err-id-2.result c.in_err-id-2.field-0.0 c.from_residual-in_err-id-2.ensures
     (GivesUp-within c.args.steps.now c.loop-at.steps c.node_of.new.steps (length c.push.new.self) (1 + total (drop c.args.depth c.args.shape.now)) _ c.loop-at.invariant.limit
-        (omega (arith, later, last, c.loop-at.invariant.cost, ap length is, length-copies {A = ℕ × ℕ} (get_or c.args.shape.now (c.loop-at.at - 1) 0) (c.loop-at.id, c.loop-at.id)))
-        (refused_gives_up _ _ _ _ _ _ c.in_err-id-2.ensures.adds))
+    (omega (arith, later, last, c.loop-at.invariant.cost, ap length is, length-copies {A = ℕ × ℕ} (get_or c.args.shape.now (c.loop-at.at - 1) 0) (c.loop-at.id, c.loop-at.id)))
+    (refused_gives_up _ _ _ _ _ _ c.in_err-id-2.ensures.adds))
 
 pub returns-in_err-id-clause-refused : goal.returns-in_err-id-clause-refused
 returns-in_err-id-clause-refused g c =

@@ -230,7 +230,7 @@ returns-in_err-root-clause-refused g c =
     let joined : IsJoined c.args.store.now c.join_part-2.new.store (lower c.as_slice-wide.result.now) (c.args.left.now ∷ c.args.right.now ∷ []) c.join_part-2.new.pairs = join_step c.args.store.now c.join_part.new.store c.join_part-2.new.store c.join_part.ensures.keeps c.join_part-2.ensures.keeps (lower c.as_slice-wide.result.now) (c.args.left.now ∷ []) c.args.right.now c.join_part.new.pairs c.join_part-2.new.pairs c.requires.right left_joined c.in_ok-join_part-2.ensures.pairs in
     passed_on _ c.from_residual-in_err-root.result c.in_err-root.field-0.0 c.from_residual-in_err-root.ensures
     (GivesUp-within c.args.steps.now c.join_part-2.new.steps c.node_of.new.steps (length c.join_part-2.new.pairs) (2 * words (united_shape c.args.left.now.shape.items c.args.right.now.shape.items) * 2 ^ (length (united_shape c.args.left.now.shape.items c.args.right.now.shape.items) + 1)) _ (c.join_part-2.ensures.limit ∙ c.join_part.ensures.limit ∙ c.united.ensures.limit)
-        (omega (arith, most, right_most, same_most, joined.long, taken)) (refused_gives_up _ _ _ _ _ _ c.in_err-root.ensures.adds))
+    (omega (arith, most, right_most, same_most, joined.long, taken)) (refused_gives_up _ _ _ _ _ _ c.in_err-root.ensures.adds))
 
 pub returns-clause-steps : goal.returns-clause-steps
 returns-clause-steps g c =

@@ -107,7 +107,7 @@ returns-in_err-join_part-clause-refused g c =
     let same_most : (sum_by first_choices c.args.parts.now) * (2 * (budget (lower c.as_slice-wide.result.now))) ≡ (sum_by first_choices c.args.parts.now) * (2 * budget (lower (united_shapes (map shape_of c.args.parts.now)))) = ap (λ b. (sum_by first_choices c.args.parts.now) * (2 * b)) same_budget in
     passed_on _ c.from_residual-in_err-join_part.result c.in_err-join_part.field-0.0 c.from_residual-in_err-join_part.ensures
     (GivesUp-within c.args.steps.now c.loop-part.steps c.join_part.new.steps (owed (prices_of (lower c.as_slice-wide.result.now)) (is_done (memo_at c.loop-part.memo)) r.0) (2 * words (united_shapes (map shape_of c.args.parts.now)) * 2 ^ (length (united_shapes (map shape_of c.args.parts.now)) + 1)) _ c.loop-part.invariant.limit
-        (omega (arith, most, part_most, same_most)) (c.in_err-join_part.ensures.refused r.0 r.1))
+    (omega (arith, most, part_most, same_most)) (c.in_err-join_part.ensures.refused r.0 r.1))
 
 pub loop-part-preserved : goal.loop-part-preserved
 loop-part-preserved g c =
@@ -175,7 +175,7 @@ returns-in_err-root-clause-refused g c =
     let same_most : (sum_by first_choices c.args.parts.now) * (2 * (budget (lower c.as_slice-wide.result.now))) ≡ (sum_by first_choices c.args.parts.now) * (2 * budget (lower (united_shapes (map shape_of c.args.parts.now)))) = ap (λ b. (sum_by first_choices c.args.parts.now) * (2 * b)) same_budget in
     passed_on _ c.from_residual-in_err-root.result c.in_err-root.field-0.0 c.from_residual-in_err-root.ensures
     (GivesUp-within c.args.steps.now c.loop-part.steps c.node_of.new.steps (length c.loop-part.pairs) (2 * words (united_shapes (map shape_of c.args.parts.now)) * 2 ^ (length (united_shapes (map shape_of c.args.parts.now)) + 1)) _ c.loop-part.invariant.limit
-        (omega (arith, most, end_most, same_most, joined.long)) (refused_gives_up _ _ _ _ _ _ c.in_err-root.ensures.adds))
+    (omega (arith, most, end_most, same_most, joined.long)) (refused_gives_up _ _ _ _ _ _ c.in_err-root.ensures.adds))
 
 pub returns-clause-steps : goal.returns-clause-steps
 returns-clause-steps g c =

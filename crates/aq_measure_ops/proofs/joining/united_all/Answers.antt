@@ -28,4 +28,4 @@ returns-in_err-shape-clause-refused g c =
     let most = front_first c.requires.levels.0 c.args.parts.now c.loop-part.part-index c.part-item.result c.as_slice-before.result.now c.as_slice-more.result.now c.requires.levels.1 at (c.as_slice-before.ensures.value ∙ c.loop-part.invariant.shape) c.as_slice-more.ensures.value in
     passed_on _ c.from_residual.result c.in_err-shape.field-0.0 c.from_residual.ensures
     (GivesUp-within c.args.steps.now c.loop-part.steps c.united.new.steps (first_number c.as_slice-before.result.now + first_number c.as_slice-more.result.now) (first_number (united_shapes (map shape_of c.args.parts.now))) _
-        (ap (λ (n : Count). n.limit) c.loop-part.invariant.still) (omega (arith, most, ap (λ (n : Count). n.taken) c.loop-part.invariant.still)) c.in_err-shape.ensures.refused)
+    (ap (λ (n : Count). n.limit) c.loop-part.invariant.still) (omega (arith, most, ap (λ (n : Count). n.taken) c.loop-part.invariant.still)) c.in_err-shape.ensures.refused)

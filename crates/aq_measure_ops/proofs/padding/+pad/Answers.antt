@@ -55,10 +55,10 @@ pad_at-returns-in_err-pad_runs-clause-refused g t c =
     let o = opened c.args.store.now (get_or c.args.from.now c.args.depth 0) (drop (c.args.depth + 1) c.args.from.now) c.args.id (subst (λ u. HasShape c.args.store.now u c.args.id) split c.requires.shape) in
     passed_on _ c.from_residual.result c.in_err-pad_runs.field-0.0 c.from_residual.ensures
     (λ levels h.
-        let rest = owed (prices_of (drop (c.args.depth + 1) c.args.to.now)) (is_done (memo_at c.args.memo.now)) (rest_of levels) in
-        GivesUp-within c.args.steps.now c.args.steps.now c.pad_runs.new.steps rest (owed (prices_of (drop c.args.depth c.args.to.now)) (is_done (memo_at c.args.memo.now)) levels) _ refl
-            (failed_within (drop c.args.depth c.args.to.now) (drop (c.args.depth + 1) c.args.to.now) (get_or c.args.to.now c.args.depth 0) split_to (is_done (memo_at c.args.memo.now)) levels c.args.id c.args.steps.now.taken (c.args.steps.now.taken + rest) h.here (ap is_some (sym c.in_default.ensures)) (omega arith))
-            (c.in_err-pad_runs.ensures.refused (rest_of levels) (pairs_held c.args.store.now (drop c.args.depth c.args.from.now) (drop (c.args.depth + 1) c.args.from.now) (get_or c.args.from.now c.args.depth 0) c.args.id levels split h)))
+    let rest = owed (prices_of (drop (c.args.depth + 1) c.args.to.now)) (is_done (memo_at c.args.memo.now)) (rest_of levels) in
+    GivesUp-within c.args.steps.now c.args.steps.now c.pad_runs.new.steps rest (owed (prices_of (drop c.args.depth c.args.to.now)) (is_done (memo_at c.args.memo.now)) levels) _ refl
+    (failed_within (drop c.args.depth c.args.to.now) (drop (c.args.depth + 1) c.args.to.now) (get_or c.args.to.now c.args.depth 0) split_to (is_done (memo_at c.args.memo.now)) levels c.args.id c.args.steps.now.taken (c.args.steps.now.taken + rest) h.here (ap is_some (sym c.in_default.ensures)) (omega arith))
+    (c.in_err-pad_runs.ensures.refused (rest_of levels) (pairs_held c.args.store.now (drop c.args.depth c.args.from.now) (drop (c.args.depth + 1) c.args.from.now) (get_or c.args.from.now c.args.depth 0) c.args.id levels split h)))
 
 pub pad_at-node_of-requires-clause-some : goal.pad_at-node_of-requires-clause-some
 pad_at-node_of-requires-clause-some g t c =
@@ -106,10 +106,10 @@ pad_at-returns-in_err-made-clause-refused g t c =
     let made = subst (λ l. Appends (Padded c.args.store.now (drop c.args.depth c.args.from.now) ((get_or c.args.from.now c.args.depth 0 + (get_or c.args.to.now c.args.depth 0 - get_or c.args.from.now c.args.depth 0)) ∷ drop (c.args.depth + 1) c.args.to.now) c.args.id) c.pad_runs.new.store (drop (c.args.depth + 1) c.args.to.now) (get_or c.args.from.now c.args.depth 0 + (get_or c.args.to.now c.args.depth 0 - get_or c.args.from.now c.args.depth 0)) l c.pad_runs.new.pairs) c.new-pairs.ensures c.in_ok-pad_runs.ensures.pairs in
     passed_on _ c.from_residual-in_err-made.result c.in_err-made.field-0.0 c.from_residual-in_err-made.ensures
     (λ levels h.
-        let b = c.in_ok-pad_runs.ensures.steps (rest_of levels) (pairs_held c.args.store.now (drop c.args.depth c.args.from.now) (drop (c.args.depth + 1) c.args.from.now) (get_or c.args.from.now c.args.depth 0) c.args.id levels split h) in
-        GivesUp-within c.args.steps.now c.pad_runs.new.steps c.node_of.new.steps (length c.pad_runs.new.pairs) (owed (prices_of (drop c.args.depth c.args.to.now)) (is_done (memo_at c.args.memo.now)) levels) _ c.pad_runs.ensures.limit
-            (paid_failed (drop c.args.depth c.args.to.now) (drop (c.args.depth + 1) c.args.to.now) (get_or c.args.to.now c.args.depth 0) split_to (is_done (memo_at c.args.memo.now)) levels c.args.id c.args.steps.now.taken (c.pad_runs.new.steps.taken + length c.pad_runs.new.pairs) h.here (ap is_some (sym c.in_default.ensures)) (omega (arith, b, ap length made.is, made.long, more)))
-            (refused_gives_up _ _ _ _ _ _ c.in_err-made.ensures.adds))
+    let b = c.in_ok-pad_runs.ensures.steps (rest_of levels) (pairs_held c.args.store.now (drop c.args.depth c.args.from.now) (drop (c.args.depth + 1) c.args.from.now) (get_or c.args.from.now c.args.depth 0) c.args.id levels split h) in
+    GivesUp-within c.args.steps.now c.pad_runs.new.steps c.node_of.new.steps (length c.pad_runs.new.pairs) (owed (prices_of (drop c.args.depth c.args.to.now)) (is_done (memo_at c.args.memo.now)) levels) _ c.pad_runs.ensures.limit
+    (paid_failed (drop c.args.depth c.args.to.now) (drop (c.args.depth + 1) c.args.to.now) (get_or c.args.to.now c.args.depth 0) split_to (is_done (memo_at c.args.memo.now)) levels c.args.id c.args.steps.now.taken (c.pad_runs.new.steps.taken + length c.pad_runs.new.pairs) h.here (ap is_some (sym c.in_default.ensures)) (omega (arith, b, ap length made.is, made.long, more)))
+    (refused_gives_up _ _ _ _ _ _ c.in_err-made.ensures.adds))
 
 pub pad_at-returns-in_err-put-clause-cheap : goal.pad_at-returns-in_err-put-clause-cheap
 pad_at-returns-in_err-put-clause-cheap g t c =
@@ -135,10 +135,10 @@ pad_at-returns-in_err-put-clause-refused g t c =
     let made = subst (λ l. Appends (Padded c.args.store.now (drop c.args.depth c.args.from.now) ((get_or c.args.from.now c.args.depth 0 + (get_or c.args.to.now c.args.depth 0 - get_or c.args.from.now c.args.depth 0)) ∷ drop (c.args.depth + 1) c.args.to.now) c.args.id) c.pad_runs.new.store (drop (c.args.depth + 1) c.args.to.now) (get_or c.args.from.now c.args.depth 0 + (get_or c.args.to.now c.args.depth 0 - get_or c.args.from.now c.args.depth 0)) l c.pad_runs.new.pairs) c.new-pairs.ensures c.in_ok-pad_runs.ensures.pairs in
     passed_on _ c.from_residual-in_err-put.result c.in_err-put.field-0.0 c.from_residual-in_err-put.ensures
     (λ levels h.
-        let b = c.in_ok-pad_runs.ensures.steps (rest_of levels) (pairs_held c.args.store.now (drop c.args.depth c.args.from.now) (drop (c.args.depth + 1) c.args.from.now) (get_or c.args.from.now c.args.depth 0) c.args.id levels split h) in
-        GivesUp-within c.args.steps.now c.node_of.new.steps c.put.new.steps 1 (owed (prices_of (drop c.args.depth c.args.to.now)) (is_done (memo_at c.args.memo.now)) levels) _ (adds_limit _ _ _ _ _ _ c.node_of.ensures.adds ∙ c.pad_runs.ensures.limit)
-            (paid_failed (drop c.args.depth c.args.to.now) (drop (c.args.depth + 1) c.args.to.now) (get_or c.args.to.now c.args.depth 0) split_to (is_done (memo_at c.args.memo.now)) levels c.args.id c.args.steps.now.taken (c.node_of.new.steps.taken + 1) h.here (ap is_some (sym c.in_default.ensures)) (omega (arith, b, c.node_of.ensures.cheap, ap length made.is, made.long, more)))
-            c.in_err-put.ensures.refused)
+    let b = c.in_ok-pad_runs.ensures.steps (rest_of levels) (pairs_held c.args.store.now (drop c.args.depth c.args.from.now) (drop (c.args.depth + 1) c.args.from.now) (get_or c.args.from.now c.args.depth 0) c.args.id levels split h) in
+    GivesUp-within c.args.steps.now c.node_of.new.steps c.put.new.steps 1 (owed (prices_of (drop c.args.depth c.args.to.now)) (is_done (memo_at c.args.memo.now)) levels) _ (adds_limit _ _ _ _ _ _ c.node_of.ensures.adds ∙ c.pad_runs.ensures.limit)
+    (paid_failed (drop c.args.depth c.args.to.now) (drop (c.args.depth + 1) c.args.to.now) (get_or c.args.to.now c.args.depth 0) split_to (is_done (memo_at c.args.memo.now)) levels c.args.id c.args.steps.now.taken (c.node_of.new.steps.taken + 1) h.here (ap is_some (sym c.in_default.ensures)) (omega (arith, b, c.node_of.ensures.cheap, ap length made.is, made.long, more)))
+    c.in_err-put.ensures.refused)
 
 pub pad_at-returns-clause-image : goal.pad_at-returns-clause-image
 pad_at-returns-clause-image g t c =
@@ -227,8 +227,8 @@ pub pad_pair-returns-in_err-second-clause-refused : goal.pad_pair-returns-in_err
 pad_pair-returns-in_err-second-clause-refused g t c =
     passed_on _ c.from_residual-in_err-second.result c.in_err-second.field-0.0 c.from_residual-in_err-second.ensures
     (λ levels h.
-        GivesUp-within c.args.steps.now c.pad_at.new.steps c.pad_at-2.new.steps (owed (prices_of (drop c.args.depth c.args.to.now)) (is_done (memo_at c.pad_at.new.memo)) levels) (owed (prices_of (drop c.args.depth c.args.to.now)) (is_done (memo_at c.args.memo.now)) levels) _
-            c.pad_at.ensures.limit (c.in_ok-first.ensures.steps levels (record { closed = h.closed; here = h.left })) (c.in_err-second.ensures.refused levels (record { closed = AreLevels-Extends c.args.store.now c.pad_at.new.store c.pad_at.ensures.keeps (drop c.args.depth c.args.from.now) levels h.closed; here = h.right })))
+    GivesUp-within c.args.steps.now c.pad_at.new.steps c.pad_at-2.new.steps (owed (prices_of (drop c.args.depth c.args.to.now)) (is_done (memo_at c.pad_at.new.memo)) levels) (owed (prices_of (drop c.args.depth c.args.to.now)) (is_done (memo_at c.args.memo.now)) levels) _
+    c.pad_at.ensures.limit (c.in_ok-first.ensures.steps levels (record { closed = h.closed; here = h.left })) (c.in_err-second.ensures.refused levels (record { closed = AreLevels-Extends c.args.store.now c.pad_at.new.store c.pad_at.ensures.keeps (drop c.args.depth c.args.from.now) levels h.closed; here = h.right })))
 
 pub pad_runs-run_count-runs-requires : goal.pad_runs-run_count-runs-requires
 pad_runs-run_count-runs-requires g t c =
@@ -283,8 +283,8 @@ pub pad_runs-returns-in_err-made-clause-refused : goal.pad_runs-returns-in_err-m
 pad_runs-returns-in_err-made-clause-refused g t c =
     passed_on _ c.from_residual.result c.in_err-made.field-0.0 c.from_residual.ensures
     (λ levels h.
-        GivesUp-within c.args.steps.now c.loop-index.steps c.pad_pair.new.steps (owed (prices_of (drop (c.args.depth + 1) c.args.to.now)) (is_done (memo_at c.loop-index.memo)) levels) (owed (prices_of (drop (c.args.depth + 1) c.args.to.now)) (is_done (memo_at c.args.memo.now)) levels) _
-            c.loop-index.invariant.limit (c.loop-index.invariant.cost levels h) (c.in_err-made.ensures.refused levels (run_held c.args.store.now c.loop-index.store c.loop-index.invariant.keeps (drop c.args.depth c.args.from.now) (drop (c.args.depth + 1) c.args.from.now) c.args.id c.loop-index.index c.run-pair.result.1 c.run-pair.result.0 levels c.requires.shape h c.run-pair.ensures.run c.run-pair.ensures.some)))
+    GivesUp-within c.args.steps.now c.loop-index.steps c.pad_pair.new.steps (owed (prices_of (drop (c.args.depth + 1) c.args.to.now)) (is_done (memo_at c.loop-index.memo)) levels) (owed (prices_of (drop (c.args.depth + 1) c.args.to.now)) (is_done (memo_at c.args.memo.now)) levels) _
+    c.loop-index.invariant.limit (c.loop-index.invariant.cost levels h) (c.in_err-made.ensures.refused levels (run_held c.args.store.now c.loop-index.store c.loop-index.invariant.keeps (drop c.args.depth c.args.from.now) (drop (c.args.depth + 1) c.args.from.now) c.args.id c.loop-index.index c.run-pair.result.1 c.run-pair.result.0 levels c.requires.shape h c.run-pair.ensures.run c.run-pair.ensures.some)))
 
 pub pad_runs-lengthened-count-requires : goal.pad_runs-lengthened-count-requires
 pad_runs-lengthened-count-requires g t c =

@@ -131,7 +131,7 @@ project_at-returns-clause-memo g t c =
     let lt : c.args.depth < length c.args.shape.now = omega (arith, c.requires.deep, c.requires.qubit) in
     let split = split_shape c.args.shape.now c.args.depth lt in
     let image = place_done (Projects g.L.Label.parts (length c.args.shape.now) c.args.qubit c.args.outcome) (projects-nothing g.L.Label.parts (length c.args.shape.now) c.args.qubit c.args.outcome) c.args.store.now c.loop-index.store c.node_of.new.self c.loop-index.invariant.keeps c.node_of.ensures.keeps
-        (drop c.args.depth c.args.shape.now) (drop (c.args.depth + 1) c.args.shape.now) (get_or c.args.shape.now c.args.depth 0) c.args.id c.in_ok-made-2.made c.loop-index.index c.loop-index.pairs split c.requires.shape c.loop-index.invariant.count (omega (arith, c.loop-index-test.false)) c.loop-index.invariant.each c.in_ok-made-2.ensures.adds.here in
+    (drop c.args.depth c.args.shape.now) (drop (c.args.depth + 1) c.args.shape.now) (get_or c.args.shape.now c.args.depth 0) c.args.id c.in_ok-made-2.made c.loop-index.index c.loop-index.pairs split c.requires.shape c.loop-index.invariant.count (omega (arith, c.loop-index-test.false)) c.loop-index.invariant.each c.in_ok-made-2.ensures.adds.here in
     IsMemo-put g.L.Label.parts c.args.outcome c.args.shape.now c.args.qubit c.args.store.now c.node_of.new.self (Extends-trans _ _ _ c.loop-index.invariant.keeps c.node_of.ensures.keeps) (memo_at c.loop-index.memo) (memo_at c.put.new.self) c.args.depth c.args.id c.in_ok-made-2.made c.requires.shape
     (IsMemo-Extends g.L.Label.parts c.args.outcome c.args.shape.now c.args.qubit c.loop-index.store c.node_of.new.self c.node_of.ensures.keeps (memo_at c.loop-index.memo) c.loop-index.invariant.memo) image c.in_ok-put.ensures.ok
 
@@ -234,12 +234,12 @@ project_at-returns-in_err-made-clause-refused g t c =
     let o = opened c.args.store.now (get_or c.args.shape.now c.args.depth 0) (drop (c.args.depth + 1) c.args.shape.now) c.args.id (subst (λ u. HasShape c.args.store.now u c.args.id) split c.requires.shape) in
     passed_on _ c.from_residual.result c.in_err-made.field-0.0 c.from_residual.ensures
     (λ levels h.
-        let l = pair_levels c.args.store.now c.loop-index.store c.loop-index.invariant.keeps (drop c.args.depth c.args.shape.now) (drop (c.args.depth + 1) c.args.shape.now) (get_or c.args.shape.now c.args.depth 0) split c.args.id c.loop-index.index c.run-pair.result.1 c.run-pair.result.0 levels c.requires.shape h.closed h.here c.run-pair.ensures.run c.run-pair.ensures.some in
-        let b = c.loop-index.invariant.cost levels h in
-        let rest = owed (prices_of (drop (c.args.depth + 1) c.args.shape.now)) (is_done (memo_at c.loop-index.memo)) (rest_of levels) in
-        GivesUp-within c.args.steps.now c.loop-index.steps c.project_pair.new.steps rest (owed (prices_of (drop c.args.depth c.args.shape.now)) (is_done (memo_at c.args.memo.now)) levels) _ c.loop-index.invariant.limit
-            (failed_within (drop c.args.depth c.args.shape.now) (drop (c.args.depth + 1) c.args.shape.now) (get_or c.args.shape.now c.args.depth 0) split (is_done (memo_at c.args.memo.now)) levels c.args.id c.args.steps.now.taken (c.loop-index.steps.taken + rest) h.here (ap is_some (sym c.in_default.ensures)) b)
-            (c.in_err-made.ensures.refused (rest_of levels) (record { closed = l.0; left = l.1; right = l.2 })))
+    let l = pair_levels c.args.store.now c.loop-index.store c.loop-index.invariant.keeps (drop c.args.depth c.args.shape.now) (drop (c.args.depth + 1) c.args.shape.now) (get_or c.args.shape.now c.args.depth 0) split c.args.id c.loop-index.index c.run-pair.result.1 c.run-pair.result.0 levels c.requires.shape h.closed h.here c.run-pair.ensures.run c.run-pair.ensures.some in
+    let b = c.loop-index.invariant.cost levels h in
+    let rest = owed (prices_of (drop (c.args.depth + 1) c.args.shape.now)) (is_done (memo_at c.loop-index.memo)) (rest_of levels) in
+    GivesUp-within c.args.steps.now c.loop-index.steps c.project_pair.new.steps rest (owed (prices_of (drop c.args.depth c.args.shape.now)) (is_done (memo_at c.args.memo.now)) levels) _ c.loop-index.invariant.limit
+    (failed_within (drop c.args.depth c.args.shape.now) (drop (c.args.depth + 1) c.args.shape.now) (get_or c.args.shape.now c.args.depth 0) split (is_done (memo_at c.args.memo.now)) levels c.args.id c.args.steps.now.taken (c.loop-index.steps.taken + rest) h.here (ap is_some (sym c.in_default.ensures)) b)
+    (c.in_err-made.ensures.refused (rest_of levels) (record { closed = l.0; left = l.1; right = l.2 })))
 
 pub project_at-returns-in_err-made-2-clause-refused : goal.project_at-returns-in_err-made-2-clause-refused
 project_at-returns-in_err-made-2-clause-refused g t c =
@@ -249,10 +249,10 @@ project_at-returns-in_err-made-2-clause-refused g t c =
     let e = before-end (pairs_at c.args.store.now c.args.id) c.loop-index.index (omega (arith, c.loop-index-test.false)) in
     passed_on _ c.from_residual-in_err-made-2.result c.in_err-made-2.field-0.0 c.from_residual-in_err-made-2.ensures
     (λ levels h.
-        let b = c.loop-index.invariant.cost levels h in
-        GivesUp-within c.args.steps.now c.loop-index.steps c.node_of.new.steps (length c.loop-index.pairs) (owed (prices_of (drop c.args.depth c.args.shape.now)) (is_done (memo_at c.args.memo.now)) levels) _ c.loop-index.invariant.limit
-            (paid_failed (drop c.args.depth c.args.shape.now) (drop (c.args.depth + 1) c.args.shape.now) (get_or c.args.shape.now c.args.depth 0) split (is_done (memo_at c.args.memo.now)) levels c.args.id c.args.steps.now.taken (c.loop-index.steps.taken + length c.loop-index.pairs) h.here (ap is_some (sym c.in_default.ensures)) (omega (arith, b, c.loop-index.invariant.count, o.1)))
-            (refused_gives_up _ _ _ _ _ _ c.in_err-made-2.ensures.adds))
+    let b = c.loop-index.invariant.cost levels h in
+    GivesUp-within c.args.steps.now c.loop-index.steps c.node_of.new.steps (length c.loop-index.pairs) (owed (prices_of (drop c.args.depth c.args.shape.now)) (is_done (memo_at c.args.memo.now)) levels) _ c.loop-index.invariant.limit
+    (paid_failed (drop c.args.depth c.args.shape.now) (drop (c.args.depth + 1) c.args.shape.now) (get_or c.args.shape.now c.args.depth 0) split (is_done (memo_at c.args.memo.now)) levels c.args.id c.args.steps.now.taken (c.loop-index.steps.taken + length c.loop-index.pairs) h.here (ap is_some (sym c.in_default.ensures)) (omega (arith, b, c.loop-index.invariant.count, o.1)))
+    (refused_gives_up _ _ _ _ _ _ c.in_err-made-2.ensures.adds))
 
 pub project_at-returns-in_err-put-clause-refused : goal.project_at-returns-in_err-put-clause-refused
 project_at-returns-in_err-put-clause-refused g t c =
@@ -262,16 +262,16 @@ project_at-returns-in_err-put-clause-refused g t c =
     let e = before-end (pairs_at c.args.store.now c.args.id) c.loop-index.index (omega (arith, c.loop-index-test.false)) in
     passed_on _ c.from_residual-in_err-put.result c.in_err-put.field-0.0 c.from_residual-in_err-put.ensures
     (λ levels h.
-        let b = c.loop-index.invariant.cost levels h in
-        GivesUp-within c.args.steps.now c.node_of.new.steps c.put.new.steps 1 (owed (prices_of (drop c.args.depth c.args.shape.now)) (is_done (memo_at c.args.memo.now)) levels) _ (adds_limit _ _ _ _ _ _ c.node_of.ensures.adds ∙ c.loop-index.invariant.limit)
-            (paid_failed (drop c.args.depth c.args.shape.now) (drop (c.args.depth + 1) c.args.shape.now) (get_or c.args.shape.now c.args.depth 0) split (is_done (memo_at c.args.memo.now)) levels c.args.id c.args.steps.now.taken (c.node_of.new.steps.taken + 1) h.here (ap is_some (sym c.in_default.ensures)) (omega (arith, b, c.node_of.ensures.cheap, c.loop-index.invariant.count, o.1)))
-            c.in_err-put.ensures.refused)
+    let b = c.loop-index.invariant.cost levels h in
+    GivesUp-within c.args.steps.now c.node_of.new.steps c.put.new.steps 1 (owed (prices_of (drop c.args.depth c.args.shape.now)) (is_done (memo_at c.args.memo.now)) levels) _ (adds_limit _ _ _ _ _ _ c.node_of.ensures.adds ∙ c.loop-index.invariant.limit)
+    (paid_failed (drop c.args.depth c.args.shape.now) (drop (c.args.depth + 1) c.args.shape.now) (get_or c.args.shape.now c.args.depth 0) split (is_done (memo_at c.args.memo.now)) levels c.args.id c.args.steps.now.taken (c.node_of.new.steps.taken + 1) h.here (ap is_some (sym c.in_default.ensures)) (omega (arith, b, c.node_of.ensures.cheap, c.loop-index.invariant.count, o.1)))
+    c.in_err-put.ensures.refused)
 
 pub project_pair-returns-in_err-second-clause-refused : goal.project_pair-returns-in_err-second-clause-refused
 project_pair-returns-in_err-second-clause-refused g t c =
     let below = drop (c.args.depth + 1) c.args.shape.now in
     passed_on _ c.from_residual-in_err-second.result c.in_err-second.field-0.0 c.from_residual-in_err-second.ensures
     (λ levels h.
-        GivesUp-within c.args.steps.now c.project_at.new.steps c.project_at-2.new.steps (owed (prices_of below) (is_done (memo_at c.project_at.new.memo)) levels) (owed (prices_of below) (is_done (memo_at c.args.memo.now)) levels) _
-            c.project_at.ensures.limit (c.in_ok-first.ensures.steps levels (record { closed = h.closed; here = h.left }))
-            (c.in_err-second.ensures.refused levels (record { closed = AreLevels-Extends c.args.store.now c.project_at.new.store c.project_at.ensures.keeps below levels h.closed; here = h.right })))
+    GivesUp-within c.args.steps.now c.project_at.new.steps c.project_at-2.new.steps (owed (prices_of below) (is_done (memo_at c.project_at.new.memo)) levels) (owed (prices_of below) (is_done (memo_at c.args.memo.now)) levels) _
+    c.project_at.ensures.limit (c.in_ok-first.ensures.steps levels (record { closed = h.closed; here = h.left }))
+    (c.in_err-second.ensures.refused levels (record { closed = AreLevels-Extends c.args.store.now c.project_at.new.store c.project_at.ensures.keeps below levels h.closed; here = h.right })))

@@ -86,4 +86,4 @@ returns-in_err-root-clause-refused g c =
     let r = root_bound c.blank_from.new.store (is_done (memo_at c.new-memo.result)) (λ i. ap is_some (c.new-memo.ensures i)) c.as_slice-shape.result.now c.as_slice-shape.result.now c.args.lsta.now.root (wider_refl c.as_slice-shape.result.now) here in
     passed_on _ c.from_residual-in_err-root.result c.in_err-root.field-0.0 c.from_residual-in_err-root.ensures
     (GivesUp-within c.args.steps.now c.blank_from.new.steps c.project_at.new.steps (owed (prices_of c.as_slice-shape.result.now) (is_done (memo_at c.new-memo.result)) r.0) (2 * words c.args.lsta.now.shape.items * 2 ^ (length c.args.lsta.now.shape.items + 1)) _ c.blank_from.ensures.limit (omega (arith, most, c.blank_from.ensures.steps, r.2))
-        (c.in_err-root.ensures.refused r.0 r.1))
+    (c.in_err-root.ensures.refused r.0 r.1))
