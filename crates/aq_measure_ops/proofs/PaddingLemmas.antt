@@ -10,8 +10,7 @@ use Rattle.std.proofs.lemmas.Bool.{eqb-true, eq-eqb}
 use Rattle.std.proofs.lemmas.Option.{slice_get_within}
 use Rattle.aq_store.specs.declared.node.Node.{Node}
 use Rattle.aq_store.specs.declared.node.Node.TheVariants.{Leaf, Inner}
-use Rattle.aq_store.specs.declared.pairs.Run.{Run}
-use Rattle.aq_store.specs.Runs.{copies, compress, run_of}
+use Rattle.aq_store.specs.Runs.{Run, copies, compress, run_of}
 use Rattle.aq_store.specs.Nodes.{EachPair, HasShape, Extends, tree, pairs_at, runs_at}
 use Rattle.aq_store.specs.Means.{Means, MeansPair, MeanPairs, under}
 use Rattle.aq_store.specs.Words.{IsWord, IsWider, shortened}
