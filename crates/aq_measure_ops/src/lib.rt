@@ -5,6 +5,8 @@ mod blank;
 mod joining;
 mod padding;
 mod projection;
+#[cfg(test)]
+mod tests;
 
 pub use joining::{Joined, union, union_of};
 pub use padding::pad;
