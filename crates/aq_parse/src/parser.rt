@@ -18,7 +18,7 @@ use std::alloc::{AllocError, Global};
 
 impl From<AllocError> for ParseFault {
     ghost use Rattle.std.specs.Prelude.{◌≡◌};
-ghost use Rattle.aq_base.specs.Limits.{most_nested};
+    ghost use Rattle.aq_base.specs.Limits.{most_nested};
     ghost use Rattle.aq_parse.specs.declared.fault.ParseFault.TheVariants.{Memory};
 
     ghost from_gives = { λ _ e. e ≡ Memory };

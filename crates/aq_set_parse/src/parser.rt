@@ -19,7 +19,7 @@ use std::alloc::{AllocError, Global};
 
 impl From<AllocError> for SetParseFault {
     ghost use Rattle.std.specs.Prelude.{◌≡◌};
-ghost use Rattle.aq_base.specs.Limits.{most_nested};
+    ghost use Rattle.aq_base.specs.Limits.{most_nested};
     ghost use Rattle.aq_set_parse.specs.declared.parse_fault.SetParseFault.TheVariants.{Memory};
 
     ghost from_gives = { λ _ e. e ≡ Memory };

@@ -4,8 +4,8 @@ ghost use Rattle.aq_ring.specs.Amplitudes.{lowest_form};
 ghost use Rattle.aq_ring.specs.Quads.{turned_by};
 ghost use Rattle.aq_set_read.specs.Coefs.{FitsNumber, FitsScalar, FitsCoef, signed, int_of, whole, turns_of, quad_of_scalar, roots_of, numerator, amplitude_of};
 
-use aq_set_parse::{SetCoef, SetInt, SetScalar, SetTurn};
 use aq_ring::Amp;
+use aq_set_parse::{SetCoef, SetInt, SetScalar, SetTurn};
 
 /// The number, negated or not. None exactly where it is above `2^127 - 1`.
 fn signed(minus: bool, number: u128) -> Option<i128>

@@ -8,8 +8,8 @@ use crate::claims::{cases_made, cases_of, first_qubits, same_qubits};
 use crate::collector::Collector;
 use crate::make_exprs::make_expr;
 use crate::set_fault::SetFault;
-use aq_sets::Sets;
 use aq_set_parse::{SetCase, SetExpr, SetItem, SetTree, SetWord};
+use aq_sets::Sets;
 use std::alloc::Global;
 
 /// Takes a set.

@@ -291,7 +291,8 @@ fn words_that_ask_for_nothing(rt: HostRuntime) -> Result<(), Fail> {
         out.bytes.as_slice(),
         b"usage: autoq check PROG SETS [--pre NAME] [--post NAME] [--steps N] [--cert FILE]\n       \
         autoq recheck PROG SETS CERT [--pre NAME] [--post NAME] [--steps N]\n       \
-        autoq replay PROG SETS --state NAME [--outcomes TEXT]\n       autoq trial N\n".as_slice()
+        autoq replay PROG SETS --state NAME [--outcomes TEXT]\n       autoq trial N\n"
+            .as_slice()
     );
     Ok(())
 }
