@@ -31,7 +31,14 @@ impl Model for Collector {
 
     ghost Value = { Gathered };
 
-    ghost view = { λ g. record { exprs = g.exprs; nodes = g.nodes; names = g.names.entries; sets = g.sets; claims = g.claims } };
+    ghost view = { λ g. record {
+      exprs = g.exprs;
+      nodes = g.nodes;
+      names = g.names.entries;
+      sets = g.sets;
+      claims =
+          g.claims;
+    } };
 
     ghost invariant = { λ g. IsWithin g.exprs g.nodes };
 }
