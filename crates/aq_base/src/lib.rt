@@ -1,7 +1,8 @@
 //! What every crate of the checker shares: its limits, and computations with checks.
 //!
-//! Each limit is a constant here, and `specs/Limits` gives it the name that definitions use. `specs/Checks` has computations
-//! that go on or stop with the first fault, and says what it is for a function of the program to give one.
+//! Each limit is a constant here, and `specs/Limits` gives it the name that definitions use. `specs/Checks` has
+//! computations that go on or stop with the first fault, and says what it is for a function of the program to give
+//! one.
 #![tactic(auto)]
 
 mod limits;

@@ -3,22 +3,31 @@ ghost use Rattle.aq_correct.specs.GatesOnly.{GatesOnlyLaws};
 ghost use Rattle.aq_obligations.specs.OwingCounts.{OwesSoMany};
 ghost use Rattle.aq_correct.specs.OwingLaws.{OwesByRule, OwesFragments, OwesValid, TrueThenCorrect};
 ghost use Rattle.aq_correct.specs.Uncut.{UncutLaws};
-ghost use Rattle.aq_correct.specs.WorldLaws.{NoughtWorlds, WorldsCompare, WorldsCoverRuns, WorldsDecide, WorldsMeetGates, WorldsRefute};
+ghost use Rattle.aq_correct.specs.WorldLaws.{
+  NoughtWorlds,
+  WorldsCompare,
+  WorldsCoverRuns,
+  WorldsDecide,
+  WorldsMeetGates,
+  WorldsRefute,
+};
 ghost use Rattle.aq_obligations.specs.declared.bound.BoundCase.{BoundCase};
 
-/// What a program whose statements are gates owes between claims of any number of cases. Its one obligation is true where the
-/// gates take each vector of a case of the precondition that is met to zero or to a nonzero multiple of a vector of a case of
-/// the postcondition that is met, and else the first vector that they don't is its refutation. It is wide where a gate on the
-/// way, or a product of an entry of an end with one of an allowed vector, doesn't fit. Where it is true, the program is correct.
+/// What a program whose statements are gates owes between claims of any number of cases. Its one obligation is true
+/// where the gates take each vector of a case of the precondition that is met to zero or to a nonzero multiple of a
+/// vector of a case of the postcondition that is met, and else the first vector that they don't is its refutation. It
+/// is wide where a gate on the way, or a product of an entry of an end with one of an allowed vector, doesn't fit.
+/// Where it is true, the program is correct.
 #[tactic(auto, using(crate::proofs::GatesOnlyProofs::gates_only_laws))]
 pub fn gates_only()
     ensures laws { GatesOnlyLaws }
 {}
 
-/// What the worlds of an obligation are for, where its fragment has no cut. Each run whose end isn't zero is in exactly one
-/// world of its case, at one place. Each vector of a world is the end of the runs that start as the world does. So the
-/// obligation is true exactly where no world has a vector that escapes the goal; else it has one refutation, which is a
-/// counterexample. A gate that a world meets and that doesn't fit makes the obligation wide, and no other gate does.
+/// What the worlds of an obligation are for, where its fragment has no cut. Each run whose end isn't zero is in
+/// exactly one world of its case, at one place. Each vector of a world is the end of the runs that start as the world
+/// does. So the obligation is true exactly where no world has a vector that escapes the goal; else it has one
+/// refutation, which is a counterexample. A gate that a world meets and that doesn't fit makes the obligation wide,
+/// and no other gate does.
 #[tactic(auto, using(crate::proofs::WorldProofs::worlds_cover_runs, crate::proofs::WorldProofs::worlds_decide, crate::proofs::RefuteLaws::worlds_refute, crate::proofs::WorldProofs::worlds_meet_gates, crate::proofs::WorldProofs::worlds_compare, crate::proofs::NoughtLaws::nought_worlds))]
 pub fn worlds()
     ensures cover { WorldsCoverRuns }
@@ -29,9 +38,9 @@ pub fn worlds()
     ensures nought { NoughtWorlds }
 {}
 
-/// What a program with claims owes: the rules by which its obligations are made, that they are valid and none of their
-/// fragments has a cut, how many they are and how many statements their fragments have, and that the program is correct where
-/// all of them are true, for all outcomes and all numbers of turns.
+/// What a program with claims owes: the rules by which its obligations are made, that they are valid and none of
+/// their fragments has a cut, how many they are and how many statements their fragments have, and that the program is
+/// correct where all of them are true, for all outcomes and all numbers of turns.
 #[tactic(auto, using(crate::proofs::OwingProofs::owes_by_rule, crate::proofs::OwingProofs::owes_fragments, crate::proofs::ValidOwed::owes_valid, crate::proofs::CountLaws::owes_so_many, crate::proofs::CorrectLaws::true_then_correct))]
 pub fn obligations()
     ensures rules { OwesByRule BoundCase }
@@ -41,8 +50,8 @@ pub fn obligations()
     ensures correct { TrueThenCorrect BoundCase }
 {}
 
-/// What a program without a cut owes, which has measurements and branches, and no loop and no assertion: one obligation, and
-/// where that is true, the program is correct.
+/// What a program without a cut owes, which has measurements and branches, and no loop and no assertion: one
+/// obligation, and where that is true, the program is correct.
 #[tactic(auto, using(crate::proofs::UncutProofs::uncut_laws))]
 pub fn uncut()
     ensures laws { UncutLaws }

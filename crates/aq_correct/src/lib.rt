@@ -1,7 +1,8 @@
-//! What obligations come to: the worlds of one decide it, and a program is correct where all of its obligations are true.
+//! What obligations come to: the worlds of one decide it, and a program is correct where all of its obligations are
+//! true.
 //!
-//! The statements are in `specs/`: `WorldLaws` of the worlds of one obligation, `OwingLaws` of those of a program, `Uncut` of
-//! programs that owe one, and `GatesOnly` of programs whose statements are gates.
+//! The statements are in `specs/`: `WorldLaws` of the worlds of one obligation, `OwingLaws` of those of a program,
+//! `Uncut` of programs that owe one, and `GatesOnly` of programs whose statements are gates.
 #![tactic(auto)]
 
 pub mod laws;

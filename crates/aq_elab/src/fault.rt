@@ -35,7 +35,8 @@ pub enum ElabFault {
     TooManyStatements { at: Place },
     /// A loop without an invariant. At the word `while`.
     MissingInvariant { at: Place },
-    /// An `@invariant` or `@assert` that isn't one name, an `@invariant` at no loop, or a second one at a loop. At its `@`.
+    /// An `@invariant` or `@assert` that isn't one name, an `@invariant` at no loop, or a second one at a loop. At
+    /// its `@`.
     StrayAnnotation { at: Place },
     /// A declaration or an include inside a body. At its first word.
     DeclaredInBlock { at: Place },

@@ -49,7 +49,8 @@ fn take_note(
     scope: &mut Scope,
     out: &mut Items<Stmt>,
 ) -> Result<Option<u32>, ElabFault>
-    ensures { Gives (λ i. record { known = scope.new; statements = out.new; invariant = i }) result (noted is_loop note.now (record { known = scope.old; statements = out.old; invariant = invariant })) }
+    ensures { Gives (λ i. record { known = scope.new; statements = out.new; invariant = i }) result
+        (noted is_loop note.now (record { known = scope.old; statements = out.old; invariant = invariant })) }
 {
     if note.name.text.is(b"assert") {
         if !is_name(note.rest.as_slice()) {
@@ -78,7 +79,8 @@ pub(crate) fn take_notes(
     scope: &mut Scope,
     out: &mut Items<Stmt>,
 ) -> Result<Option<u32>, ElabFault>
-    ensures { Gives (λ i. record { known = scope.new; statements = out.new; invariant = i }) result (all_noted is_loop notes.now (record { known = scope.old; statements = out.old; invariant = None })) }
+    ensures { Gives (λ i. record { known = scope.new; statements = out.new; invariant = i }) result
+        (all_noted is_loop notes.now (record { known = scope.old; statements = out.old; invariant = None })) }
 {
     let mut invariant = None;
     for note in notes {

@@ -1,6 +1,15 @@
 //! What a gate's name and angle mean.
 ghost use Rattle.std.specs.Prelude.{◌≡◌, Some};
-ghost use Rattle.aq_elab.specs.Calls.{one_of_table, recipe_named, wants_angle, is_unknown, is_angle_missed, recipe_at, spots_of, recipe_of};
+ghost use Rattle.aq_elab.specs.Calls.{
+  one_of_table,
+  recipe_named,
+  wants_angle,
+  is_unknown,
+  is_angle_missed,
+  recipe_at,
+  spots_of,
+  recipe_of,
+};
 
 use crate::angle::eighths_of;
 use crate::fault::ElabFault;

@@ -40,8 +40,8 @@ pub(crate) struct Declared {
     pub(crate) span: Span,
 }
 
-/// The names of registers in the order of their declaration, the names of claims in the order of their first mention, and
-/// the numbers of qubits, of bits and of statements.
+/// The names of registers in the order of their declaration, the names of claims in the order of their first mention,
+/// and the numbers of qubits, of bits and of statements.
 #[derive(Drop)]
 pub(crate) struct Scope {
     names: IndexMap<Text, Declared>,
@@ -56,7 +56,13 @@ impl Model for Scope {
 
     ghost Value = { Known };
 
-    ghost view = { λ s. record { names = s.names.entries; claims = s.claims.keys; qubits = s.qubits; bits = s.bits; statements = s.statements } };
+    ghost view = { λ s. record {
+      names = s.names.entries;
+      claims = s.claims.keys;
+      qubits = s.qubits;
+      bits = s.bits;
+      statements = s.statements;
+    } };
 
     ghost use Rattle.aq_elab.specs.Bounds.{IsWithin};
 

@@ -103,7 +103,8 @@ pub(crate) fn declare_bits(
     scope: &mut Scope,
     out: &mut Items<Stmt>,
 ) -> Result<(), ElabFault>
-    ensures { Gives (λ u. step scope.new out.new) result (behind out.old (bits_declared name.now size from.now scope.old)) }
+    ensures { Gives (λ u. step scope.new out.new) result (behind out.old
+        (bits_declared name.now size from.now scope.old)) }
 {
     let bits = scope.declare(alloc, Role::Bit, name, size)?;
     let Some(from) = from else {

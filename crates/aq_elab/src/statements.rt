@@ -89,7 +89,8 @@ fn node(
     scope: &mut Scope,
     out: &mut Items<Stmt>,
 ) -> Result<(), ElabFault>
-    ensures { Gives (λ u. step scope.new out.new) result (behind out.old ((meaning_of node.now).run at invariant asserts scope.old)) }
+    ensures { Gives (λ u. step scope.new out.new) result (behind out.old
+        ((meaning_of node.now).run at invariant asserts scope.old)) }
 {
     match node {
         Node::If { test, yes, no } => {

@@ -144,8 +144,8 @@ fn stray_annotations(rt: HostRuntime) {
     );
 }
 
-/// The kind of a statement with two numbers that it has: of a measurement the qubit and the bit, of a reset the qubit, of
-/// an assert and a loop the claim and the line, of a branch the bit and its value.
+/// The kind of a statement with two numbers that it has: of a measurement the qubit and the bit, of a reset the
+/// qubit, of an assert and a loop the claim and the line, of a branch the bit and its value.
 fn row(stmt: &Stmt) -> (u8, u32, u32) {
     match stmt {
         Stmt::Measure { qubit, bit } => (b'm', *qubit, bit.unwrap_or(99)),

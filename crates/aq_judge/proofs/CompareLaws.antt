@@ -1,22 +1,13 @@
 -- What the ratio of two vectors says of them.
-use Rattle.std.proofs.Common.{◌≡◌, ℕ, zero, suc, ◌<◌, List, [], ◌∷◌, Contains, length, map, refl, ap, ◌∙◌, subst, arith, ◌⊎◌, inl, inr}
+use Rattle.std.proofs.Common.{◌≡◌, ℕ, zero, suc, ◌<◌, List, [], ◌∷◌, Contains, length, refl, arith, ◌⊎◌, inl, inr}
 use Rattle.aq_ring.specs.Fractions.{Amplitude}
 use Rattle.aq_ring.specs.Amplitudes.{FitsAmplitudeProduct}
 use Rattle.aq_ring.specs.Vectors.{Proportional}
 use Rattle.aq_label.specs.declared.Ratio.{Ratio}
 use Rattle.aq_label.specs.declared.Ratio.TheVariants.{AllZero, Different, Wide, Same}
-use Rattle.aq_label.specs.Ratios.{lefts, rights, at, IsWideBy, IsRatio, IsSame, IsDifferent}
+use Rattle.aq_label.specs.Ratios.{at, IsWideBy, IsRatio, IsSame, IsDifferent}
 use Rattle.aq_judge.specs.Finding.{WideProduct, Compares}
 use Rattle.aq_judge.proofs.PlayLaws.{later_contains}
-
--- one part each
-lefts-pairs : (pairs : List (Amplitude × Amplitude)) → lefts (λ (p : Amplitude). p ∷ []) pairs ≡ map (λ p. p.0) pairs
-lefts-pairs [] = refl
-lefts-pairs (p ∷ ps) = ap (λ (l : List Amplitude). p.0 ∷ l) (lefts-pairs ps)
-
-rights-pairs : (pairs : List (Amplitude × Amplitude)) → rights (λ (p : Amplitude). p ∷ []) pairs ≡ map (λ p. p.1) pairs
-rights-pairs [] = refl
-rights-pairs (p ∷ ps) = ap (λ (l : List Amplitude). p.1 ∷ l) (rights-pairs ps)
 
 at_contains : (u : List Amplitude) (k : ℕ) → k < length u → Contains u (at u k)
 at_contains [] k h = absurd (omega (arith, h))
@@ -36,20 +27,9 @@ wide_product u v l r same w = by_operands w.wide.operands
     by_operands (inl a) = record { left = at u w.place; right = at v w.pivot; of_first = at_contains u w.place w.comes.within; of_second = at_contains v w.pivot pivot_in; wide = a.0 }
     by_operands (inr b) = record { left = at u w.pivot; right = at v w.place; of_first = at_contains u w.pivot w.comes.pivot.within; of_second = at_contains v w.place place_in; wide = b.1 }
 
-compares_by : (u v : List Amplitude) (r : Ratio) → length u ≡ length v → IsRatio u v r → (IsSame r → Proportional u v) → (IsDifferent r → ¬ (Proportional u v)) → Compares u v r
-compares_by u v AllZero same is p d = is.0
-compares_by u v (Same pivot) same is p d = p tt
-compares_by u v (Different place) same is p d = d tt
-compares_by u v (Wide l r) same is p d = wide_product u v l r same is
-
--- what the ratio of the pairs says of the two vectors
-pub compares : (pairs : List (Amplitude × Amplitude)) (u v : List Amplitude) (r : Ratio) → length u ≡ length v → map (λ p. p.0) pairs ≡ u → map (λ p. p.1) pairs ≡ v
-    → IsRatio (lefts (λ p. p ∷ []) pairs) (rights (λ p. p ∷ []) pairs) r
-    → (IsSame r → Proportional (lefts (λ p. p ∷ []) pairs) (rights (λ p. p ∷ []) pairs))
-    → (IsDifferent r → ¬ (Proportional (lefts (λ p. p ∷ []) pairs) (rights (λ p. p ∷ []) pairs))) → Compares u v r
-compares pairs u v r same e f is p d =
-    let left : lefts (λ (p : Amplitude). p ∷ []) pairs ≡ u = lefts-pairs pairs ∙ e in
-    let right : rights (λ (p : Amplitude). p ∷ []) pairs ≡ v = rights-pairs pairs ∙ f in
-    compares_by u v r same (subst (λ (x : List Amplitude). IsRatio x v r) left (subst (λ (y : List Amplitude). IsRatio (lefts (λ (p : Amplitude). p ∷ []) pairs) y r) right is))
-    (subst (λ (x : List Amplitude). IsSame r → Proportional x v) left (subst (λ (y : List Amplitude). IsSame r → Proportional (lefts (λ (p : Amplitude). p ∷ []) pairs) y) right p))
-    (subst (λ (x : List Amplitude). IsDifferent r → ¬ (Proportional x v)) left (subst (λ (y : List Amplitude). IsDifferent r → ¬ (Proportional (lefts (λ (p : Amplitude). p ∷ []) pairs) y)) right d))
+-- what the ratio of two vectors says of them
+pub compares : (u v : List Amplitude) (r : Ratio) → length u ≡ length v → IsRatio u v r → (IsSame r → Proportional u v) → (IsDifferent r → ¬ (Proportional u v)) → Compares u v r
+compares u v AllZero same is p d = is.0
+compares u v (Same pivot) same is p d = p tt
+compares u v (Different place) same is p d = d tt
+compares u v (Wide l r) same is p d = wide_product u v l r same is

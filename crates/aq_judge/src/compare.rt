@@ -1,11 +1,10 @@
 //! Whether a vector is a nonzero multiple of another.
-ghost use Rattle.std.specs.Prelude.{◌≡◌, All, IfOk, length, map};
+ghost use Rattle.std.specs.Prelude.{◌≡◌, All, length};
 ghost use Rattle.aq_judge.specs.Finding.{Compares, Finds, amps_of, is_same, is_wide};
 
-use aq_label::{Ratio, ratio_of};
+use aq_label::{Ratio, ratio_of_amps};
 use aq_plain::Vector;
 use aq_ring::Amp;
-use std::alloc::{AllocError, Global};
 
 /// What is found where a vector is looked for among others.
 #[derive(Clone, Copy, Debug, PartialEq, Eq)]
@@ -18,26 +17,12 @@ pub(crate) enum Found {
     Unclear,
 }
 
-/// The entries of two vectors, pair by pair.
-fn pairs_of(alloc: Global, left: &[Amp], right: &[Amp]) -> Result<Vec<(Amp, Amp)>, AllocError>
-    requires { length left.now ≡ length right.now }
-    ensures lefts { IfOk result (λ pairs. map (λ p. p.0) pairs.items ≡ left.now) }
-    ensures rights { IfOk result (λ pairs. map (λ p. p.1) pairs.items ≡ right.now) }
-{
-    let mut pairs = Vec::new(alloc);
-    for i in 0..left.len() {
-        pairs.push((left[i], right[i]))?;
-    }
-    Ok(pairs)
-}
-
 /// Whether two vectors are proportional.
-fn compare(alloc: Global, left: &[Amp], right: &[Amp]) -> Result<Ratio, AllocError>
+fn compare(left: &[Amp], right: &[Amp]) -> Ratio
     requires { length left.now ≡ length right.now }
-    ensures { IfOk result (λ ratio. Compares left.now right.now ratio) }
+    ensures { Compares left.now right.now result }
 {
-    let pairs = pairs_of(alloc, left, right)?;
-    Ok(ratio_of(pairs.as_slice()))
+    ratio_of_amps(left, right)
 }
 
 fn is_same(ratio: &Ratio) -> bool
@@ -59,20 +44,20 @@ fn is_wide(ratio: &Ratio) -> bool
 }
 
 /// Looks for the vector, up to a nonzero factor, among those that are allowed.
-pub(crate) fn find_goal(alloc: Global, end: &[Amp], allowed: &[Vector]) -> Result<Found, AllocError>
+pub(crate) fn find_goal(end: &[Amp], allowed: &[Vector]) -> Found
     requires { All (λ w. length w.amps ≡ length end.now) allowed.now }
-    ensures { IfOk result (λ found. Finds (amps_of allowed.now) end.now found) }
+    ensures { Finds (amps_of allowed.now) end.now result }
 {
     let mut wide = false;
     for goal in allowed {
-        let ratio = compare(alloc, end, goal.amps())?;
+        let ratio = compare(end, goal.amps());
         if is_same(&ratio) {
-            return Ok(Found::Goal);
+            return Found::Goal;
         }
         wide = wide || is_wide(&ratio);
     }
     if wide {
-        return Ok(Found::Unclear);
+        return Found::Unclear;
     }
-    Ok(Found::Nothing)
+    Found::Nothing
 }

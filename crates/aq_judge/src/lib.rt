@@ -1,8 +1,8 @@
-//! The judge of an obligation of gates, over plain lists of vectors: whether each run from a vector of its assumption ends in
-//! a nonzero multiple of a vector of its goal.
+//! The judge of an obligation of gates, over plain lists of vectors: whether each run from a vector of its assumption
+//! ends in a nonzero multiple of a vector of its goal.
 //!
-//! The definitions are in `specs/`: `Owed` has what is asked, `Finding` what is found of runs, and `Met` what the parts of
-//! the judge give.
+//! The definitions are in `specs/`: `Owed` has what is asked, `Finding` what is found of runs, and `Met` what the
+//! parts of the judge give.
 #![tactic(auto)]
 
 mod body;

@@ -33,7 +33,8 @@ fn end_of(
 ) -> Result<End, AllocError>
     requires valid { All (IsValidGate state.now.qubits) (gates_in body.now) }
     requires sizes { All (λ w. length w.amps ≡ 2 ^ state.now.qubits) allowed.now }
-    ensures { IfOk result (λ end. EndsAs state.now.qubits (gates_in body.now) (amps_of allowed.now) state.now.amps end) }
+    ensures { IfOk result (λ end. EndsAs state.now.qubits (gates_in body.now)
+        (amps_of allowed.now) state.now.amps end) }
 {
     let mut end = state.copy(alloc)?;
     if play(&mut end, body).is_err() {
@@ -42,7 +43,7 @@ fn end_of(
     if end.is_zero() {
         return Ok(End::Kept);
     }
-    match find_goal(alloc, end.amps(), allowed)? {
+    match find_goal(end.amps(), allowed) {
         Found::Goal => Ok(End::Kept),
         Found::Nothing => Ok(End::Lost(end)),
         Found::Unclear => Ok(End::Unclear),
@@ -91,7 +92,8 @@ pub(crate) fn judge_starts(
     requires valid { All (IsValidGate program.now.qubits) (gates_in body.now) }
     requires starts { All (λ w. w.qubits ≡ program.now.qubits) starts.now }
     requires allowed { All (λ w. length w.amps ≡ 2 ^ program.now.qubits) allowed.now }
-    ensures { IfOk result (λ v. Judges program.now.qubits program.now.bits (gates_in body.now) (amps_of allowed.now) (amps_of starts.now) v) }
+    ensures { IfOk result (λ v. Judges program.now.qubits program.now.bits (gates_in body.now) (amps_of allowed.now)
+        (amps_of starts.now) v) }
 {
     for state in starts {
         match end_of(alloc, body, state, allowed)? {

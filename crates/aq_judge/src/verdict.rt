@@ -29,7 +29,8 @@ fn try_judge(
 ) -> Result<Verdict, Stop>
     requires asked { CanBeJudged program.now sets.now obligation.now }
     requires told { sizes.now ≡ capped_sizes sets.now.exprs }
-    ensures ok { IfOk result (λ v. (limit enough : ℕ) → IsJustified limit enough (meaning_of program.now sets.now obligation.now) v) }
+    ensures ok { IfOk result (λ v. (limit enough : ℕ) → IsJustified limit enough
+        (meaning_of program.now sets.now obligation.now) v) }
     ensures err { IfErr result (λ e. StopsFor (IsWide (meaning_of program.now sets.now obligation.now)) e) }
 {
     let allowed = met_states(alloc, sets, sizes, obligation.goal.cases.as_slice())?;
@@ -39,13 +40,13 @@ fn try_judge(
     Ok(verdict)
 }
 
-/// Judges an obligation of the program whose statements are gates, from the program's start: whether each run from a vector
-/// of a case whose conditions hold there, where every bit is 0, ends in zero or in a nonzero multiple of a vector of a case
-/// of the goal whose conditions hold.
+/// Judges an obligation of the program whose statements are gates, from the program's start: whether each run from a
+/// vector of a case whose conditions hold there, where every bit is 0, ends in zero or in a nonzero multiple of a
+/// vector of a case of the goal whose conditions hold.
 ///
-/// The verdict is justified. `GaveUp(Steps)`: exactly where the limit is below the number of steps that are enough, which is
-/// told before any vector is made. `GaveUp(Width)`: a number that is needed doesn't fit. `GaveUp(Memory)`: memory ran out,
-/// which may come anywhere.
+/// The verdict is justified. `GaveUp(Steps)`: exactly where the limit is below the number of steps that are enough,
+/// which is told before any vector is made. `GaveUp(Width)`: a number that is needed doesn't fit. `GaveUp(Memory)`:
+/// memory ran out, which may come anywhere.
 pub fn judge(
     alloc: Global,
     program: &Program,
@@ -55,8 +56,10 @@ pub fn judge(
 ) -> Verdict
     requires asked { CanBeJudged program.now sets.now obligation.now }
     requires limit { limit ≤ 1000000000 }
-    ensures justified { IsJustified limit (enough program.now sets.now obligation.now) (meaning_of program.now sets.now obligation.now) result }
-    ensures steps { limit < enough program.now sets.now obligation.now → (result ≡ verdict.GaveUp why.Steps) ⊎ (result ≡ verdict.GaveUp why.Memory) }
+    ensures justified { IsJustified limit (enough program.now sets.now obligation.now)
+        (meaning_of program.now sets.now obligation.now) result }
+    ensures steps { limit < enough program.now sets.now obligation.now → (result ≡ verdict.GaveUp why.Steps) ⊎
+        (result ≡ verdict.GaveUp why.Memory) }
 {
     let Ok(sizes) = sizes_of(alloc, sets) else {
         return Verdict::GaveUp(Why::Memory);
@@ -76,8 +79,10 @@ pub fn judge_by_sizes(
     requires asked { CanBeJudged program.now sets.now obligation.now }
     requires told { sizes.now ≡ capped_sizes sets.now.exprs }
     requires limit { limit ≤ 1000000000 }
-    ensures justified { IsJustified limit (enough program.now sets.now obligation.now) (meaning_of program.now sets.now obligation.now) result }
-    ensures steps { limit < enough program.now sets.now obligation.now → (result ≡ verdict.GaveUp why.Steps) ⊎ (result ≡ verdict.GaveUp why.Memory) }
+    ensures justified { IsJustified limit (enough program.now sets.now obligation.now)
+        (meaning_of program.now sets.now obligation.now) result }
+    ensures steps { limit < enough program.now sets.now obligation.now → (result ≡ verdict.GaveUp why.Steps) ⊎
+        (result ≡ verdict.GaveUp why.Memory) }
 {
     let enough = enough_steps(program, sets, sizes, obligation);
     if u128::from(limit) < enough {

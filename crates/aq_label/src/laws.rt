@@ -1,8 +1,8 @@
 //! The laws of labels, each the contract of a function that does nothing: to call it is to cite it.
 ghost use Rattle.aq_label.specs.Laws.{ModuleLaws, PartStepLaws, OneRatio};
 
-/// Labels are a module over the amplitudes, in which turns and quotients by `sqrt(2)` are linear. The laws speak of lists
-/// of parts, so they hold of every label.
+/// Labels are a module over the amplitudes, in which turns and quotients by `sqrt(2)` are linear. The laws speak of
+/// lists of parts, so they hold of every label.
 pub fn labels()
     ensures labels { ModuleLaws }
     ensures steps { PartStepLaws }

@@ -15,7 +15,7 @@ mod walk;
 
 use aq_ring::Amp;
 use std::hash::Hash;
-use walk::walk_all;
+use walk::{walk_all, walk_amps};
 
 /// A value that is a list of amplitudes, its parts. Each operation acts on each part as the amplitudes' does, and a
 /// value is known by its parts. `laws::labels` has the laws of these operations.
@@ -142,13 +142,13 @@ pub enum Ratio {
     },
 }
 
-/// Whether the left values of the pairs are proportional to the right ones, all by one factor. The pairs are read as one
-/// list of pairs of parts, part by part, and positions count these.
+/// Whether the left values of the pairs are proportional to the right ones, all by one factor. The pairs are read as
+/// one list of pairs of parts, part by part, and positions count these.
 ///
-/// The pivot `p` is the first position where not both parts are zero. From it on, position `i` agrees where both parts
-/// are zero, or neither is and `left[i] * right[p]` and `left[p] * right[i]` are equal. The first position that doesn't
-/// agree gives the answer: Different where just one part is zero or both products fit and differ, Wide with the operands
-/// of the first of the two products that doesn't fit.
+/// The pivot `p` is the first position where not both parts are zero. From it on, position `i` agrees where both
+/// parts are zero, or neither is and `left[i] * right[p]` and `left[p] * right[i]` are equal. The first position that
+/// doesn't agree gives the answer: Different where just one part is zero or both products fit and differ, Wide with
+/// the operands of the first of the two products that doesn't fit.
 pub fn ratio_of<L: Label>(pairs: &[(L, L)]) -> Ratio
     ensures answer { IsRatio (lefts L.parts pairs.now) (rights L.parts pairs.now) result }
     ensures same { IsSame result → Proportional (lefts L.parts pairs.now) (rights L.parts pairs.now) }
@@ -157,6 +157,20 @@ pub fn ratio_of<L: Label>(pairs: &[(L, L)]) -> Ratio
     ensures exact { IsSame result ↔ IsProportionalAndFits (lefts L.parts pairs.now) (rights L.parts pairs.now) }
 {
     match walk_all(pairs) {
+        Ok(walk) => walk.ratio(),
+        Err(mismatch) => mismatch,
+    }
+}
+
+/// The same of two lists of amplitudes, which are as long as each other. It stops at the first position that doesn't
+/// agree.
+pub fn ratio_of_amps(left: &[Amp], right: &[Amp]) -> Ratio
+    requires { length left.now ≡ length right.now }
+    ensures answer { IsRatio left.now right.now result }
+    ensures same { IsSame result → Proportional left.now right.now }
+    ensures different { IsDifferent result → ¬ (Proportional left.now right.now) }
+{
+    match walk_amps(left, right) {
         Ok(walk) => walk.ratio(),
         Err(mismatch) => mismatch,
     }

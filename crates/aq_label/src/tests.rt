@@ -27,9 +27,18 @@ impl Label for Two {
 
     ghost all_parts = { Prim.search rules };
 
-    ghost same_parts = { λ x y e i. record { first = ap (λ l. slice_index_or l 0 amplitude_zero) e i; second = ap (λ l. slice_index_or l 1 amplitude_zero) e i } };
+    ghost same_parts = { λ x y e i. record {
+      first = ap (λ l. slice_index_or l 0 amplitude_zero) e i;
+      second = ap
+          (λ l. slice_index_or l 1 amplitude_zero) e i;
+    } };
 
-    ghost equal_is_same = { λ x y. Decides-like _ (λ h i. record { first = h.0 i; second = h.1 i }) (λ e. (ap (λ (p : Two). p.first) e, ap (λ (p : Two). p.second) e)) (Decides-and _ _ (equal-amplitudes x.first y.first) (equal-amplitudes x.second y.second)) };
+    ghost equal_is_same = { λ x y. Decides-like _ (λ h i. record { first = h.0 i; second = h.1 i }) (λ e. (
+      ap (λ
+          (p : Two). p.first) e,
+      ap (λ (p : Two). p.second) e,
+    )) (Decides-and _ _ (equal-amplitudes x.first y.first)
+        (equal-amplitudes x.second y.second)) };
 
     fn zero() -> Two {
         Two {

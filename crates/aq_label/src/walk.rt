@@ -86,7 +86,8 @@ impl Walk {
     /// One pair more. The error is the answer, which ends the walk.
     fn step(self, left: Amp, right: Amp) -> Result<Walk, Ratio>
         requires { self.position + 1 < 2 ^ 128 }
-        ensures walked { (u v : List Amplitude) → IsWalked u v self → WalksOver (u ++ left ∷ []) (v ++ right ∷ []) result }
+        ensures walked { (u v : List Amplitude) → IsWalked u v self → WalksOver (u ++ left ∷ [])
+            (v ++ right ∷ []) result }
         ensures position { IfOk result (λ w. w.position ≡ self.position + 1) }
     {
         let met = self.pivot;
@@ -100,7 +101,8 @@ impl Walk {
     fn step_after_zeros(self, left: Amp, right: Amp) -> Result<Walk, Ratio>
         requires room { self.position + 1 < 2 ^ 128 }
         requires zeros { self.pivot ≡ None }
-        ensures walked { (u v : List Amplitude) → IsWalked u v self → WalksOver (u ++ left ∷ []) (v ++ right ∷ []) result }
+        ensures walked { (u v : List Amplitude) → IsWalked u v self → WalksOver (u ++ left ∷ [])
+            (v ++ right ∷ []) result }
         ensures position { IfOk result (λ w. w.position ≡ self.position + 1) }
     {
         if left.is_zero() && right.is_zero() {
@@ -156,7 +158,8 @@ fn step_from(position: u128, pivot: Pivot, left: Amp, right: Amp) -> Result<Walk
 fn walk_parts<L: Label>(walk: Walk, count: u32, left: L, right: L) -> Result<Walk, Ratio>
     requires all { count ≡ L.part_count }
     requires room { walk.position + count < 2 ^ 128 }
-    ensures walked { (u v : List Amplitude) → IsWalked u v walk → WalksOver (u ++ L.parts left) (v ++ L.parts right) result }
+    ensures walked { (u v : List Amplitude) → IsWalked u v walk → WalksOver (u ++ L.parts left)
+        (v ++ L.parts right) result }
     ensures position { IfOk result (λ w. w.position ≡ walk.position + count) }
 {
     let mut walk = walk;
@@ -174,6 +177,18 @@ pub(crate) fn walk_all<L: Label>(pairs: &[(L, L)]) -> Result<Walk, Ratio>
     let mut walk = Walk::new();
     for (left, right) in pairs {
         walk = walk_parts(walk, count, *left, *right)?;
+    }
+    Ok(walk)
+}
+
+/// Walks over two lists of amplitudes.
+pub(crate) fn walk_amps(left: &[Amp], right: &[Amp]) -> Result<Walk, Ratio>
+    requires { length left.now ≡ length right.now }
+    ensures { WalksOver left.now right.now result }
+{
+    let mut walk = Walk::new();
+    for i in 0..left.len() {
+        walk = walk.step(left[i], right[i])?;
     }
     Ok(walk)
 }

@@ -1,7 +1,16 @@
 ghost use Rattle.std.specs.Prelude.{◌≡◌, ◌≤◌, length};
 ghost use Rattle.std.specs.List.{prefix_len, suffix_len};
 ghost use Rattle.aq_lex.specs.Bytes.{is_blank};
-ghost use Rattle.aq_lex.specs.Notes.{is_note_letter, uncommented_len, without_front_blanks, without_end_blanks, trimmed, note_text, note_name, note_rest};
+ghost use Rattle.aq_lex.specs.Notes.{
+  is_note_letter,
+  uncommented_len,
+  without_front_blanks,
+  without_end_blanks,
+  trimmed,
+  note_text,
+  note_name,
+  note_rest,
+};
 
 use crate::scan::{begins, is_blank, is_word};
 

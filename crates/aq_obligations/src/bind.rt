@@ -7,7 +7,21 @@ ghost use Rattle.aq_base.specs.Limits.{most_bits};
 ghost use Rattle.aq_prog.specs.Programs.{IsValidProgram};
 ghost use Rattle.aq_sets.specs.Tables.{at_position};
 ghost use Rattle.aq_sets.specs.Valid.{IsValidSets};
-ghost use Rattle.aq_obligations.specs.Bound.{Gives, bit_of, bit_in, register_named, bound_cond, bound_case, bound_claim, claim_named, bound_claims, asked, AreShort, AreQubits, IsBoundCase};
+ghost use Rattle.aq_obligations.specs.Bound.{
+  Gives,
+  bit_of,
+  bit_in,
+  register_named,
+  bound_cond,
+  bound_case,
+  bound_claim,
+  claim_named,
+  bound_claims,
+  asked,
+  AreShort,
+  AreQubits,
+  IsBoundCase,
+};
 ghost use Rattle.aq_obligations.specs.declared.bound.ClaimFault.TheVariants as faults;
 
 use crate::bound::{AskedClaims, BoundCase, ClaimFault};
@@ -120,8 +134,8 @@ fn qubits_at(qubits: &[u32], expr: u32) -> u32
     }
 }
 
-/// A case of the claim with this name, from the numbers of qubits of all expressions. QubitsDiffer: it is on another number
-/// of qubits than the program. Then BitUnknown, condition by condition.
+/// A case of the claim with this name, from the numbers of qubits of all expressions. QubitsDiffer: it is on another
+/// number of qubits than the program. Then BitUnknown, condition by condition.
 #[tactic(auto, unfolding(crate::specs::Bound::bound_case))]
 fn case_of(
     alloc: Global,
@@ -221,11 +235,11 @@ fn look_up(
     bind(alloc, program, sets, first, second)
 }
 
-/// The cases of the claims named `pre` and `post`, with their bits looked up in the program. Each is on the program's qubits,
-/// and asks for bits of the program. Errors, the first that applies:
+/// The cases of the claims named `pre` and `post`, with their bits looked up in the program. Each is on the program's
+/// qubits, and asks for bits of the program. Errors, the first that applies:
 /// - UnknownClaim: no claim is named `pre`, or else none is named `post`.
-/// - QubitsDiffer, BitUnknown: claim by claim and case by case, a case is on another number of qubits than the program, or,
-///   if not, one of its conditions names no bit of it.
+/// - QubitsDiffer, BitUnknown: claim by claim and case by case, a case is on another number of qubits than the
+///   program, or, if not, one of its conditions names no bit of it.
 /// - Memory: memory ran out.
 pub fn ask(
     alloc: Global,

@@ -203,7 +203,8 @@ fn steps_by(
     weights: u128,
 ) -> u128
     requires { qubits ≤ 16 }
-    ensures { (e W L V X : ℕ) → splits ≡ capped e → from ≡ capped W → statements ≡ capped L → goal ≡ capped V → weights ≡ capped X
+    ensures { (e W L V X : ℕ) → splits ≡ capped e → from ≡ capped W → statements ≡ capped L → goal ≡ capped V
+        → weights ≡ capped X
         → result ≡ capped (8 * (2 ^ e * W * 2 ^ (suc qubits) * (L + V) + 2 ^ (suc qubits) * X)) }
 {
     let entries = twice_entries(qubits);

@@ -52,8 +52,8 @@ fn set(alloc: Global) -> Result<NamedSet, Fail>
     Ok(NamedSet { name, expr: 1 })
 }
 
-/// All basis states of one and of two qubits, the set `s`, the claim `p` of one case, and the claim `q` of all states of two
-/// qubits.
+/// All basis states of one and of two qubits, the set `s`, the claim `p` of one case, and the claim `q` of all states
+/// of two qubits.
 fn sets(alloc: Global, position: u32, when: Items<Cond>) -> Result<Sets, Fail>
     requires { position < 2 }
     ensures { IfOk result (λ s. IsValidSets s) }

@@ -10,7 +10,9 @@ pub fn programs()
     // At most one tree, however deep its bodies may nest.
     ensures tree { (d e : ℕ) (x y : Tree) (ts : List Piece) → IsProgram d x ts → IsProgram e y ts → x ≡ y }
     // At most one first fault.
-    ensures fault { (deep : ℕ) (ts r s : List Piece) (k l : Fault) → IsFault deep ts k r → IsFault deep ts l s → (k ≡ l) × (r ≡ s) }
+    ensures fault { (deep : ℕ) (ts r s : List Piece) (k l : Fault) → IsFault deep ts k r → IsFault deep ts l s →
+        (k ≡ l) × (r ≡ s) }
     // One of them.
-    ensures some { (deep : ℕ) (ts : List Piece) → ((tree : Tree) × IsProgram deep tree ts) ⊎ ((k : Fault) × (rest : List Piece) × IsFault deep ts k rest) }
+    ensures some { (deep : ℕ) (ts : List Piece) → ((tree : Tree) × IsProgram deep tree ts) ⊎ ((k : Fault) ×
+        (rest : List Piece) × IsFault deep ts k rest) }
 {}

@@ -18,7 +18,7 @@ use std::alloc::{AllocError, Global};
 
 impl From<AllocError> for ParseFault {
     ghost use Rattle.std.specs.Prelude.{◌≡◌};
-ghost use Rattle.aq_base.specs.Limits.{most_nested};
+    ghost use Rattle.aq_base.specs.Limits.{most_nested};
     ghost use Rattle.aq_parse.specs.declared.fault.ParseFault.TheVariants.{Memory};
 
     ghost from_gives = { λ _ e. e ≡ Memory };
@@ -77,7 +77,8 @@ fn tree_of_list<'a>(alloc: Global, list: &'a [Lexeme<'a>]) -> Result<Tree, Parse
     }
 }
 
-/// The tree of a program's tokens by the grammar, in which bodies nest at most 64 deep; or the first fault, at its token.
+/// The tree of a program's tokens by the grammar, in which bodies nest at most 64 deep; or the first fault, at its
+/// token.
 pub fn parse(alloc: Global, tokens: &Tokens<'_>) -> Result<Tree, ParseFault>
     // What is found is a tree of the tokens.
     ensures tree { IfOk result (λ tree. IsProgram most_nested tree (pieces tokens.now)) }

@@ -2,7 +2,27 @@ ghost use Rattle.std.specs.Prelude.{◌≡◌, true};
 ghost use Rattle.aq_grammar.specs.Readers.{optional, after};
 ghost use Rattle.aq_grammar.specs.Results.{Gives};
 ghost use Rattle.aq_parse.specs.Tokens.{begins, mark_at};
-ghost use Rattle.aq_parse.specs.Reading.{size_at, maybe_size_at, spot_at, spots_at, source_at, target_at, divisor_at, turn_at, times_turn_at, counted_at, amount_at, sign_at, angle_at, angled_at, equals_at, clear_at, equal_at, test_at, head_at};
+ghost use Rattle.aq_parse.specs.Reading.{
+  size_at,
+  maybe_size_at,
+  spot_at,
+  spots_at,
+  source_at,
+  target_at,
+  divisor_at,
+  turn_at,
+  times_turn_at,
+  counted_at,
+  amount_at,
+  sign_at,
+  angle_at,
+  angled_at,
+  equals_at,
+  clear_at,
+  equal_at,
+  test_at,
+  head_at,
+};
 ghost use Rattle.aq_parse.specs.Grammar.{or_one};
 ghost use Rattle.aq_parse.specs.declared.mark.Mark.TheVariants as marks;
 

@@ -1,7 +1,27 @@
 ghost use Rattle.std.specs.Prelude.{◌≡◌, []};
 ghost use Rattle.aq_grammar.specs.Words.{first};
 ghost use Rattle.aq_grammar.specs.Results.{Gives};
-ghost use Rattle.aq_parse.specs.Tokens.{begins, begins_name, begins_number, begins_note, mark_at, number_at, name_at, pi_at, value_at, three_at, library_at, note_at, end_at, place_of, is_sort, value_in, taken_if, version_in, library_in};
+ghost use Rattle.aq_parse.specs.Tokens.{
+  begins,
+  begins_name,
+  begins_number,
+  begins_note,
+  mark_at,
+  number_at,
+  name_at,
+  pi_at,
+  value_at,
+  three_at,
+  library_at,
+  note_at,
+  end_at,
+  place_of,
+  is_sort,
+  value_in,
+  taken_if,
+  version_in,
+  library_in,
+};
 ghost use Rattle.aq_parse.specs.Reading.{start_of, opening_of};
 
 use crate::lexeme::{Lexeme, Sort};

@@ -2,7 +2,22 @@ ghost use Rattle.std.specs.Prelude.{◌≡◌};
 ghost use Rattle.std.proofs.Common.{inl, inr};
 ghost use Rattle.aq_grammar.specs.Readers.{mapped};
 ghost use Rattle.aq_grammar.specs.Results.{Gives};
-ghost use Rattle.aq_parse.specs.Reading.{include_at, qubit_at, register_at, qreg_at, creg_at, bit_at, measure_at, reset_at, maybe_spots_at, barrier_at, assign_tail_at, call_tail_at, named_at, simple_at};
+ghost use Rattle.aq_parse.specs.Reading.{
+  include_at,
+  qubit_at,
+  register_at,
+  qreg_at,
+  creg_at,
+  bit_at,
+  measure_at,
+  reset_at,
+  maybe_spots_at,
+  barrier_at,
+  assign_tail_at,
+  call_tail_at,
+  named_at,
+  simple_at,
+};
 
 use crate::lexeme::Lexeme;
 use crate::mark::Mark;

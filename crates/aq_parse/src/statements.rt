@@ -3,7 +3,22 @@ ghost use Rattle.aq_base.specs.Limits.{most_nested};
 ghost use Rattle.aq_grammar.specs.Readers.{many, optional};
 ghost use Rattle.aq_grammar.specs.Results.{Gives};
 ghost use Rattle.aq_parse.specs.Tokens.{begins};
-ghost use Rattle.aq_parse.specs.Reading.{if_at, while_at, bare_at, notes_at, item_at, open_inside, open_outside, block_at, inside_at, body_at, version_at, maybe_version_at, program_at, whole_at};
+ghost use Rattle.aq_parse.specs.Reading.{
+  if_at,
+  while_at,
+  bare_at,
+  notes_at,
+  item_at,
+  open_inside,
+  open_outside,
+  block_at,
+  inside_at,
+  body_at,
+  version_at,
+  maybe_version_at,
+  program_at,
+  whole_at,
+};
 ghost use Rattle.aq_parse.specs.declared.mark.Mark.TheVariants as marks;
 
 use crate::lexeme::Lexeme;

@@ -1,6 +1,20 @@
 ghost use Rattle.std.specs.Prelude.{◌≡◌};
 ghost use Rattle.std.specs.Str.{bytes_eq};
-ghost use Rattle.aq_parse.specs.Words.{lookup, statement_words, other_words, is_one_of, gate_words, box_words, type_words, unit_words, flow_words, foreign_mark, reserved, is_three, is_stdgates};
+ghost use Rattle.aq_parse.specs.Words.{
+  lookup,
+  statement_words,
+  other_words,
+  is_one_of,
+  gate_words,
+  box_words,
+  type_words,
+  unit_words,
+  flow_words,
+  foreign_mark,
+  reserved,
+  is_three,
+  is_stdgates,
+};
 
 use crate::mark::Mark;
 

@@ -1,15 +1,14 @@
 -- How the statements of a run follow one another, as far as they are played.
-use Rattle.std.proofs.Common.{◌≡◌, ℕ, zero, suc, ◌+◌, ◌<◌, ◌≤◌, Bool, true, false, cond, ◌||◌, List, [], ◌∷◌, ◌++◌, map, length, All, drop, Option, Some, None, refl, ap, ap₂, sym, ◌∙◌, subst, append_assoc, append-nil, arith, get_or, drop-cons, add-one}
+use Rattle.std.proofs.Common.{◌≡◌, ℕ, zero, suc, ◌+◌, ◌<◌, ◌≤◌, Bool, true, false, cond, ◌||◌, List, [], ◌∷◌, ◌++◌, map, length, drop, Option, refl, ap, ap₂, sym, ◌∙◌, subst, append_assoc, append-nil, arith, get_or, drop-cons, add-one}
 use Rattle.std.specs.Prelude.{Result, Ok, Err, IfOk, IfErr}
-use Rattle.std.specs.List.{list_any, AllByRecursion}
-use Rattle.std.proofs.lemmas.List.Elements.{All-from_recursion, recursion_from_All, All-append, All-nil, All-cons}
+use Rattle.std.specs.List.{list_any}
+use Rattle.std.proofs.lemmas.List.Elements.{All-from_recursion, All-append, All-nil, All-cons}
 use Rattle.aq_ring.specs.Fractions.{Amplitude}
-use Rattle.aq_ring.specs.Vectors.{IsZeroVector}
 use Rattle.aq_prog.specs.Cuts.{loop_step, has_loop}
-use Rattle.aq_prog.specs.Events.{Event, Plays, Leaves, Happens, if_ended, events_in, outcome_event, events_step, events_at, events, IsGood, AreGood, IsFirst, outcomes_among, HasLeft}
+use Rattle.aq_prog.specs.Events.{Event, Plays, Leaves, Happens, if_ended, outcome_event, events_step, events_at, events, IsGood, AreGood, IsFirst, outcomes_among, HasLeft}
 use Rattle.aq_prog.specs.Gates.{apply_gate, project, flip_gate, FitsGate, IsValidGate, IsEntry, entry_at}
 use Rattle.aq_prog.specs.Programs.{IsValidLevel, IsValidStmt}
-use Rattle.aq_prog.specs.Runs.{State, Run, How, Passed, Played, Meaning, ended, stopped, then_go, going_on, joined, has_bit, with_bit, flipped, measured, was_reset, played_gate, passing, meaning, meaning_step, run}
+use Rattle.aq_prog.specs.Runs.{State, Run, How, Passed, Played, Meaning, ended, stopped, then_go, has_bit, measured, was_reset, played_gate, passing, meaning, meaning_step, run}
 use Rattle.aq_prog.specs.declared.gate.Entry.{Entry}
 use Rattle.aq_prog.specs.declared.gate.Gate.{Gate}
 use Rattle.aq_prog.specs.declared.stmt.Guard.{Guard}
@@ -23,7 +22,7 @@ use Rattle.aq_prog.proofs.CutLaws.{branch_loops}
 use Rattle.aq_prog.proofs.InsideLaws.{inside_if}
 use Rattle.aq_plain.proofs.ValidLaws.{valid_alone}
 use Rattle.aq_plain.specs.Wide.{IsFirstWide}
-use Rattle.aq_plain.specs.Replaying.{ArePlayable, IsPlayableStmt, MeetsWide, IsPlayed, MeetsZero, IsStopped, HaltsBy, IsTaken, IsDead, Refuses, IsIn, IsMeasured, HaltsMeasured, IsReset, HaltsReset, PlaysStmt, HaltsStmt, PlaysAll, HaltsAll, Replays, start_of, stop_of}
+use Rattle.aq_plain.specs.Replaying.{ArePlayable, IsPlayableStmt, IsPlayed, IsStopped, HaltsBy, Refuses, IsIn, IsMeasured, HaltsMeasured, IsReset, HaltsReset, PlaysStmt, HaltsStmt, PlaysAll, HaltsAll, Replays, start_of, stop_of}
 use Rattle.aq_plain.specs.declared.player.Halt.{Halt}
 use Rattle.aq_plain.specs.declared.player.Halt.TheVariants as halt
 use Rattle.aq_plain.specs.declared.replay_stop.ReplayStop.{ReplayStop}

@@ -33,7 +33,8 @@ pub fn apply_plain(vector: &mut Vector, gate: &Gate) -> Result<(), WideSum>
 fn find_wide(amps: &[Amp], qubits: u32, gate: &Gate) -> Option<WideSum>
     requires valid { IsValidGate qubits gate.now }
     requires sizes { IsStateVector qubits amps.now }
-    ensures { MatchOption result (FitsGate qubits gate.now amps.now) (λ w. IsFirstWide qubits gate.now amps.now w.left w.right) }
+    ensures { MatchOption result (FitsGate qubits gate.now amps.now)
+        (λ w. IsFirstWide qubits gate.now amps.now w.left w.right) }
 {
     if always_fits(gate.matrix.rows[0][0], gate.matrix.rows[0][1])
         && always_fits(gate.matrix.rows[1][0], gate.matrix.rows[1][1])
@@ -53,7 +54,8 @@ fn wide_at(amps: &[Amp], qubits: u32, gate: &Gate, index: usize) -> Option<WideS
     requires valid { IsValidGate qubits gate.now }
     requires sizes { IsStateVector qubits amps.now }
     requires within { index < length amps.now }
-    ensures { MatchOption result (FitsGateAt qubits gate.now amps.now index) (λ w. IsWideAt qubits gate.now amps.now index w.left w.right) }
+    ensures { MatchOption result (FitsGateAt qubits gate.now amps.now index)
+        (λ w. IsWideAt qubits gate.now amps.now index w.left w.right) }
 {
     if !has_controls(index, qubits, gate.controls.as_slice()) {
         return None;
@@ -102,7 +104,8 @@ fn write_pair(amps: &mut [Amp], gate: &Gate, low: usize, weight: usize)
     requires apart { 0 < weight }
     requires top { FitsRowOf gate.now 0 (amplitude_at amps.old low) (amplitude_at amps.old (low + weight)) }
     requires bottom { FitsRowOf gate.now 1 (amplitude_at amps.old low) (amplitude_at amps.old (low + weight)) }
-    ensures { amps.new ≡ slice_set (slice_set amps.old low (row_of gate.now 0 (amplitude_at amps.old low) (amplitude_at amps.old (low + weight))))
+    ensures { amps.new ≡ slice_set (slice_set amps.old low (row_of gate.now 0 (amplitude_at amps.old low)
+        (amplitude_at amps.old (low + weight))))
         (low + weight) (row_of gate.now 1 (amplitude_at amps.old low) (amplitude_at amps.old (low + weight))) }
 {
     let (left, right) = (amps[low], amps[low + weight]);

@@ -61,7 +61,8 @@ pub fn vectors_by_sizes(
 pub(crate) fn numbers_of(sizes: &[Size], expr: u32) -> (u32, u128)
     requires { expr < length sizes.now }
     ensures qubits { (exprs : List Expr) → sizes.now ≡ capped_sizes exprs → result.0 ≡ (size_of exprs expr).qubits }
-    ensures count { (exprs : List Expr) → sizes.now ≡ capped_sizes exprs → result.1 ≡ capped (size_of exprs expr).count }
+    ensures count { (exprs : List Expr) → sizes.now ≡ capped_sizes exprs → result.1 ≡ capped
+        (size_of exprs expr).count }
 {
     let size = &sizes[expr as usize];
     (size.qubits, size.count)

@@ -4,7 +4,22 @@ ghost use Rattle.std.specs.List.{list_any};
 ghost use Rattle.aq_prog.specs.Cuts.{has_loop};
 ghost use Rattle.aq_prog.specs.Gates.{apply_gate, flip_gate};
 ghost use Rattle.aq_prog.specs.Runs.{has_bit};
-ghost use Rattle.aq_plain.specs.Replaying.{ArePlayable, IsPlayableStmt, state_of, IsIn, IsTaken, Refuses, IsMeasured, HaltsMeasured, IsReset, HaltsReset, PlaysStmt, HaltsStmt, PlaysAll, HaltsAll};
+ghost use Rattle.aq_plain.specs.Replaying.{
+  ArePlayable,
+  IsPlayableStmt,
+  state_of,
+  IsIn,
+  IsTaken,
+  Refuses,
+  IsMeasured,
+  HaltsMeasured,
+  IsReset,
+  HaltsReset,
+  PlaysStmt,
+  HaltsStmt,
+  PlaysAll,
+  HaltsAll,
+};
 ghost use Rattle.aq_plain.specs.declared.player.Halt.TheVariants as halts;
 
 use crate::apply::apply_plain;
@@ -70,7 +85,8 @@ fn take_outcome<'a>(
 ) -> Result<(bool, &'a [bool]), Halt>
     requires { qubit < vector.old.qubits }
     ensures qubits { vector.new.qubits ≡ vector.old.qubits }
-    ensures taken { IfOk result (λ x. IsTaken vector.old.qubits qubit vector.old.amps vector.new.amps outcomes.now x.0 x.1.now) }
+    ensures taken { IfOk result (λ x. IsTaken vector.old.qubits qubit vector.old.amps vector.new.amps outcomes.now
+        x.0 x.1.now) }
     ensures refused { IfErr result (Refuses vector.old.qubits qubit vector.old.amps outcomes.now) }
 {
     let Some((outcome, left)) = outcomes.split_first() else {
@@ -104,8 +120,10 @@ fn measure<'a>(
     requires bit { IsIn (length player.old.bits) bit }
     ensures qubits { OnOk result (player.new.vector.qubits ≡ player.old.vector.qubits) }
     ensures bits { OnOk result (length player.new.bits ≡ length player.old.bits) }
-    ensures played { IfOk result (λ left. IsMeasured player.old.vector.qubits qubit bit (state_of player.old outcomes.now) (state_of player.new left.now)) }
-    ensures halted { IfErr result (HaltsMeasured player.old.vector.qubits qubit bit (state_of player.old outcomes.now)) }
+    ensures played { IfOk result (λ left. IsMeasured player.old.vector.qubits qubit bit
+        (state_of player.old outcomes.now) (state_of player.new left.now)) }
+    ensures halted { IfErr result (HaltsMeasured player.old.vector.qubits qubit bit
+        (state_of player.old outcomes.now)) }
 {
     let (outcome, left) = take_outcome(&mut player.vector, qubit, outcomes)?;
     if let Some(bit) = bit {
@@ -124,7 +142,8 @@ fn reset<'a>(
     requires qubit { qubit < player.old.vector.qubits }
     ensures qubits { OnOk result (player.new.vector.qubits ≡ player.old.vector.qubits) }
     ensures bits { OnOk result (player.new.bits ≡ player.old.bits) }
-    ensures played { IfOk result (λ left. IsReset player.old.vector.qubits qubit (state_of player.old outcomes.now) (state_of player.new left.now)) }
+    ensures played { IfOk result (λ left. IsReset player.old.vector.qubits qubit (state_of player.old outcomes.now)
+        (state_of player.new left.now)) }
     ensures halted { IfErr result (HaltsReset player.old.vector.qubits qubit (state_of player.old outcomes.now)) }
 {
     let (outcome, left) = take_outcome(&mut player.vector, qubit, outcomes)?;
@@ -159,7 +178,8 @@ fn play<'a>(
     requires loop_free { has_loop stmt.now ≡ false }
     ensures qubits { OnOk result (player.new.vector.qubits ≡ player.old.vector.qubits) }
     ensures bits { OnOk result (length player.new.bits ≡ length player.old.bits) }
-    ensures played { IfOk result (λ left. PlaysStmt player.old.vector.qubits stmt.now (state_of player.old outcomes.now) (state_of player.new left.now)) }
+    ensures played { IfOk result (λ left. PlaysStmt player.old.vector.qubits stmt.now
+        (state_of player.old outcomes.now) (state_of player.new left.now)) }
     ensures halted { IfErr result (HaltsStmt player.old.vector.qubits stmt.now (state_of player.old outcomes.now)) }
 {
     match stmt {
@@ -197,7 +217,8 @@ pub(crate) fn play_all<'a>(
     requires loop_free { list_any has_loop body.now ≡ false }
     ensures qubits { OnOk result (player.new.vector.qubits ≡ player.old.vector.qubits) }
     ensures bits { OnOk result (length player.new.bits ≡ length player.old.bits) }
-    ensures played { IfOk result (λ left. PlaysAll player.old.vector.qubits body.now (state_of player.old outcomes.now) (state_of player.new left.now)) }
+    ensures played { IfOk result (λ left. PlaysAll player.old.vector.qubits body.now
+        (state_of player.old outcomes.now) (state_of player.new left.now)) }
     ensures halted { IfErr result (HaltsAll player.old.vector.qubits body.now (state_of player.old outcomes.now)) }
 {
     let mut left = outcomes;

@@ -26,11 +26,11 @@ fn stop_of(halt: Halt, outcomes: usize) -> ReplayStop
     }
 }
 
-/// Plays the statements from these bits and this vector, with these outcomes for its measurements and resets in order. An
-/// assertion is passed. Gives the bits and the vector at the end. Errors:
+/// Plays the statements from these bits and this vector, with these outcomes for its measurements and resets in
+/// order. An assertion is passed. Gives the bits and the vector at the end. Errors:
 /// - NotLoopFree, before all else: there is a loop among the statements.
-/// - ShortOutcomes, Impossible, Blocked, Wide: the first of these that the run meets. A gate doesn't fit, an outcome is wanted
-///   and none is left, an outcome leaves a zero vector, or an assumption doesn't hold.
+/// - ShortOutcomes, Impossible, Blocked, Wide: the first of these that the run meets. A gate doesn't fit, an outcome
+///   is wanted and none is left, an outcome leaves a zero vector, or an assumption doesn't hold.
 /// - LongOutcomes: the run ends, and outcomes are left.
 /// - Memory: memory ran out.
 pub fn replay(

@@ -17,7 +17,8 @@ pub struct WideSum {
 
 /// The amplitude divided so many times by `sqrt(2)`. On a refusal, the operand of the first division that doesn't fit.
 fn quotient(amp: Amp, times: u8) -> Result<Amp, Amp>
-    ensures { MatchResult result (λ r. FitsDivided times amp × (r ≡ divided times amp)) (λ w. IsWideDivision times amp w) }
+    ensures { MatchResult result (λ r. FitsDivided times amp × (r ≡ divided times amp))
+        (λ w. IsWideDivision times amp w) }
 {
     let mut rest = amp;
     for i in 0..times {

@@ -12,7 +12,8 @@ use std::alloc::Global;
 
 /// Appends the amplitude times each of the right ones. `Wide`: the operands of a product that doesn't fit.
 fn push_products(amps: &mut Vec<Amp>, left: Amp, right: &[Amp]) -> Result<(), VectorStop>
-    ensures { Takes (map (λ b. (left, b)) right.now) (λ _. amps.new.items ≡ amps.old.items ++ map (product left) right.now) result }
+    ensures { Takes (map (λ b. (left, b)) right.now) (λ _. amps.new.items ≡ amps.old.items ++ map
+        (product left) right.now) result }
 {
     for amp in right {
         let Some(product) = left.product(*amp) else {
@@ -41,7 +42,8 @@ fn push_tensors(
     left: &[Amp],
     right: &[Row],
 ) -> Result<(), VectorStop>
-    ensures { Takes (flat_map (pairs left.now) right.now) (λ _. rows.new.items ≡ rows.old.items ++ map (tensor left.now) right.now) result }
+    ensures { Takes (flat_map (pairs left.now) right.now) (λ _. rows.new.items ≡ rows.old.items ++ map
+        (tensor left.now) right.now) result }
 {
     for row in right {
         let product = tensor_row(alloc, left, row.amps())?;
@@ -68,7 +70,8 @@ pub(crate) fn tensor_rows(
 /// The tensor product of so many times the base, from the left to the right.
 pub(crate) fn power_rows(alloc: Global, base: &[Row], times: u32) -> Result<Vec<Row>, VectorStop>
     requires { 2 ≤ times }
-    ensures { Takes (power times (listed base.now)).products (λ rows. rows.items ≡ (power times (listed base.now)).vectors) result }
+    ensures { Takes (power times (listed base.now)).products (λ rows. rows.items ≡ (power times
+        (listed base.now)).vectors) result }
 {
     let mut rows = tensor_rows(alloc, base, base)?;
     for i in 2..times {

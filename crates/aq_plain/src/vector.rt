@@ -1,5 +1,18 @@
 //! State vectors.
-ghost use Rattle.std.specs.Prelude.{◌≡◌, ◌↔◌, ◌<◌, ◌≤◌, ◌^◌, IfOk, IsTrue, length, replicate, slice_get, slice_set, Some};
+ghost use Rattle.std.specs.Prelude.{
+  ◌≡◌,
+  ◌↔◌,
+  ◌<◌,
+  ◌≤◌,
+  ◌^◌,
+  IfOk,
+  IsTrue,
+  length,
+  replicate,
+  slice_get,
+  slice_set,
+  Some,
+};
 ghost use Rattle.aq_ring.specs.Amplitudes.{amplitude_zero};
 ghost use Rattle.aq_ring.specs.Vectors.{IsZeroVector};
 ghost use Rattle.aq_prog.specs.Gates.{apply_gate, project, FitsGate, IsValidGate};

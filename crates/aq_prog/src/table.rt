@@ -1,7 +1,17 @@
 //! The gates by name.
 ghost use Rattle.std.specs.Prelude.{◌≡◌, ◌<◌, map, IfSome};
 ghost use Rattle.aq_prog.specs.Gates.{IsEntry, AreEntries};
-ghost use Rattle.aq_prog.specs.Table.{gate_among, seen, fixed_gates, phase_gates, rotation_gates, entry_turned, rest_by, rotation_named, rows_named};
+ghost use Rattle.aq_prog.specs.Table.{
+  gate_among,
+  seen,
+  fixed_gates,
+  phase_gates,
+  rotation_gates,
+  entry_turned,
+  rest_by,
+  rotation_named,
+  rows_named,
+};
 
 use crate::gate::Entry;
 

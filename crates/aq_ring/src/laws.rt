@@ -1,5 +1,14 @@
 //! The laws of exact amplitudes. Each is the contract of a function that does nothing: to call it is to cite it.
-ghost use Rattle.aq_ring.specs.Laws.{RingLaws, NoZeroDivisors, NormLaws, OneLowestForm, StepLaws, ProportionalEquivalence, ProportionalKeeps, ScalarLaws};
+ghost use Rattle.aq_ring.specs.Laws.{
+  RingLaws,
+  NoZeroDivisors,
+  NormLaws,
+  OneLowestForm,
+  StepLaws,
+  ProportionalEquivalence,
+  ProportionalKeeps,
+  ScalarLaws,
+};
 
 /// The amplitudes are a commutative ring with no zero divisors, each number has one lowest form, and turns and
 /// quotients by `sqrt(2)` are products.

@@ -1,11 +1,24 @@
-//! Exact amplitudes of quantum states: the numbers `(a + b*w + c*w^2 + d*w^3) / sqrt(2)^k`, where `w` is the eighth root
-//! of unity `exp(i*pi/4)`. A contract sees the number with unbounded integers, and says when it fits the machine's.
+//! Exact amplitudes of quantum states: the numbers `(a + b*w + c*w^2 + d*w^3) / sqrt(2)^k`, where `w` is the eighth
+//! root of unity `exp(i*pi/4)`. A contract sees the number with unbounded integers, and says when it fits the
+//! machine's.
 #![tactic(auto)]
 
 ghost use Rattle.std.specs.Prelude.{◌≡◌, ◌<◌, ◌+◌, ◌^◌, ◌↔◌, IsTrue, ◌∷◌, []};
 ghost use Rattle.std.specs.Option.{SomeIff};
 ghost use Rattle.aq_ring.specs.Fractions.{IsInRange, quad_of, IsLowest};
-ghost use Rattle.aq_ring.specs.Amplitudes.{lowest_form, amplitude_zero, amplitude_one, sum, product, turn, quotient, IsSumInRange, FitsSum, FitsAmplitudeProduct, FitsQuotient};
+ghost use Rattle.aq_ring.specs.Amplitudes.{
+  lowest_form,
+  amplitude_zero,
+  amplitude_one,
+  sum,
+  product,
+  turn,
+  quotient,
+  IsSumInRange,
+  FitsSum,
+  FitsAmplitudeProduct,
+  FitsQuotient,
+};
 
 mod coefficient;
 pub mod laws;

@@ -1,7 +1,19 @@
 //! Numerators: the numbers `a + b*w + c*w^2 + d*w^3`, where `w` is the eighth root of unity.
 ghost use Rattle.std.specs.Prelude.{◌≡◌, ◌↔◌, ◌+ℤ◌, ◌*ℤ◌, IsTrue, true, ◌∷◌, []};
 ghost use Rattle.std.specs.Option.{SomeIff};
-ghost use Rattle.aq_ring.specs.Quads.{quad, quad_zero, quad_one, quad_sum, quad_product, turned, turned_by, times_root, times_roots, is_divisible, over_root};
+ghost use Rattle.aq_ring.specs.Quads.{
+  quad,
+  quad_zero,
+  quad_one,
+  quad_sum,
+  quad_product,
+  turned,
+  turned_by,
+  times_root,
+  times_roots,
+  is_divisible,
+  over_root,
+};
 ghost use Rattle.aq_ring.specs.Gathered.{gathered};
 ghost use Rattle.aq_ring.specs.Fractions.{IsInRange, FitsProduct, FitsTerms};
 ghost use Rattle.aq_ring.specs.Small.{IsSmall, IsSmallQuad};

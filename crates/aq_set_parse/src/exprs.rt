@@ -2,7 +2,23 @@ ghost use Rattle.std.specs.Prelude.{◌≡◌};
 ghost use Rattle.aq_grammar.specs.Readers.{optional, after};
 ghost use Rattle.aq_grammar.specs.Results.{Gives};
 ghost use Rattle.aq_set_parse.specs.Tokens.{begins, mark_at};
-ghost use Rattle.aq_set_parse.specs.Reading.{vector_at, basis_at, named_at, atom_at, power_at, powered_at, link_at, factor_of, factors_at, tensor_at, part_of, parts_at, inside_at, group_at, expr_at};
+ghost use Rattle.aq_set_parse.specs.Reading.{
+  vector_at,
+  basis_at,
+  named_at,
+  atom_at,
+  power_at,
+  powered_at,
+  link_at,
+  factor_of,
+  factors_at,
+  tensor_at,
+  part_of,
+  parts_at,
+  inside_at,
+  group_at,
+  expr_at,
+};
 ghost use Rattle.aq_set_parse.specs.declared.mark.SetMark.TheVariants as marks;
 
 use crate::lexeme::SetLexeme;
@@ -103,7 +119,8 @@ fn next_factor<'a>(
     tokens: &'a [SetLexeme<'a>],
     room: u32,
 ) -> Result<(SetFactor, &'a [SetLexeme<'a>]), Halt<'a>>
-    ensures { Gives (λ x. (x.0, x.1.now)) result (link_at factor_of (after (mark_at marks.Star) (powered_at (group_at room))) tokens.now) }
+    ensures { Gives (λ x. (x.0, x.1.now)) result (link_at factor_of (after (mark_at marks.Star) (powered_at
+        (group_at room))) tokens.now) }
 {
     let at = place(tokens);
     let rest = mark(tokens, SetMark::Star)?;
@@ -155,7 +172,8 @@ fn next_part<'a>(
     tokens: &'a [SetLexeme<'a>],
     room: u32,
 ) -> Result<(SetPart, &'a [SetLexeme<'a>]), Halt<'a>>
-    ensures { Gives (λ x. (x.0, x.1.now)) result (link_at part_of (after (mark_at marks.Union) (tensor_at (group_at room))) tokens.now) }
+    ensures { Gives (λ x. (x.0, x.1.now)) result (link_at part_of (after (mark_at marks.Union) (tensor_at
+        (group_at room))) tokens.now) }
 {
     let at = place(tokens);
     let rest = mark(tokens, SetMark::Union)?;

@@ -1,5 +1,15 @@
 ghost use Rattle.std.specs.Prelude.{◌≡◌, ◌≤◌, ◌<◌, ◌+◌, ◌^◌, length, slice_index, drop};
-ghost use Rattle.aq_set_parse.specs.Fronts.{slash_class, comment_front, ket_front, number_front, equals_front, symbol_alone, alone, set_sign_front, set_front};
+ghost use Rattle.aq_set_parse.specs.Fronts.{
+  slash_class,
+  comment_front,
+  ket_front,
+  number_front,
+  equals_front,
+  symbol_alone,
+  alone,
+  set_sign_front,
+  set_front,
+};
 
 use crate::scan::{bits_len, number_class};
 use crate::token::{SetClass, SetFound, SetKind, SetSymbol};

@@ -3,7 +3,21 @@ ghost use Rattle.aq_base.specs.Limits.{most_nested};
 ghost use Rattle.aq_grammar.specs.Readers.{optional, after, many};
 ghost use Rattle.aq_grammar.specs.Results.{Gives};
 ghost use Rattle.aq_set_parse.specs.Tokens.{begins, mark_at};
-ghost use Rattle.aq_set_parse.specs.Reading.{index_at, cond_at, conds_at, when_at, case_at, cases_at, head_at, set_at, claim_at, item_at, goes_on, file_at, whole_at};
+ghost use Rattle.aq_set_parse.specs.Reading.{
+  index_at,
+  cond_at,
+  conds_at,
+  when_at,
+  case_at,
+  cases_at,
+  head_at,
+  set_at,
+  claim_at,
+  item_at,
+  goes_on,
+  file_at,
+  whole_at,
+};
 ghost use Rattle.aq_set_parse.specs.declared.mark.SetMark.TheVariants as marks;
 
 use crate::exprs::expr;

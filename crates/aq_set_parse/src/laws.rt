@@ -12,8 +12,10 @@ ghost use Rattle.aq_set_parse.specs.declared.tree.SetTree.{SetTree};
 pub fn set_cuts()
     ensures some { (before bytes : List ℕ) → (ls : List Lexeme) × Cut before bytes ls }
     ensures cut { (before bytes : List ℕ) (ls ms : List Lexeme) → Cut before bytes ls → Cut before bytes ms → ls ≡ ms }
-    ensures reading { (source : List ℕ) (a b : Result (List SetToken) SetLexFault) → Reads source a → Reads source b → a ≡ b }
-    ensures slices { (source : List ℕ) (ls : List Lexeme) (ts : List SetToken) → Cut [] source ls → tokens_of [] ls ≡ Ok ts → map (slice_of source) ts ≡ texts_of ls }
+    ensures reading { (source : List ℕ) (a b : Result (List SetToken) SetLexFault) → Reads source a → Reads source b
+        → a ≡ b }
+    ensures slices { (source : List ℕ) (ls : List Lexeme) (ts : List SetToken) → Cut [] source ls
+        → tokens_of [] ls ≡ Ok ts → map (slice_of source) ts ≡ texts_of ls }
 {}
 
 /// What holds of the grammar: each list of tokens has one tree or one first fault. It does nothing.
@@ -21,7 +23,9 @@ pub fn set_trees()
     // At most one tree, however deep its parentheses may nest.
     ensures tree { (d e : ℕ) (x y : SetTree) (ts : List SetPiece) → IsFile d x ts → IsFile e y ts → x ≡ y }
     // At most one first fault.
-    ensures fault { (deep : ℕ) (ts r s : List SetPiece) (k l : Fault) → IsFault deep ts k r → IsFault deep ts l s → (k ≡ l) × (r ≡ s) }
+    ensures fault { (deep : ℕ) (ts r s : List SetPiece) (k l : Fault) → IsFault deep ts k r → IsFault deep ts l s →
+        (k ≡ l) × (r ≡ s) }
     // One of them.
-    ensures some { (deep : ℕ) (ts : List SetPiece) → ((tree : SetTree) × IsFile deep tree ts) ⊎ ((k : Fault) × (rest : List SetPiece) × IsFault deep ts k rest) }
+    ensures some { (deep : ℕ) (ts : List SetPiece) → ((tree : SetTree) × IsFile deep tree ts) ⊎ ((k : Fault) ×
+        (rest : List SetPiece) × IsFault deep ts k rest) }
 {}

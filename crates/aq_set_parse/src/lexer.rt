@@ -15,7 +15,8 @@ use std::alloc::Global;
 fn token(kind: SetKind, from: Cursor, to: Cursor) -> SetToken
     requires from { from.offset < 2 ^ 31 }
     requires to { to.offset < 2 ^ 31 }
-    ensures token { (before text : List ℕ) → Stands from before → Stands to (before ++ text) → result ≡ token kind before text }
+    ensures token { (before text : List ℕ) → Stands from before → Stands to (before ++ text)
+        → result ≡ token kind before text }
     ensures span { (result.start ≡ from.offset) × (result.end ≡ to.offset) }
 {
     SetToken {
@@ -30,7 +31,8 @@ fn token(kind: SetKind, from: Cursor, to: Cursor) -> SetToken
 fn reading(class: SetClass, from: Cursor, to: Cursor) -> Result<Option<SetToken>, SetLexFault>
     requires from { from.offset < 2 ^ 31 }
     requires to { to.offset < 2 ^ 31 }
-    ensures value { (before text : List ℕ) → Stands from before → Stands to (before ++ text) → result ≡ reading before class text }
+    ensures value { (before text : List ℕ) → Stands from before → Stands to (before ++ text)
+        → result ≡ reading before class text }
     ensures span { IfOk result (λ o. IfSome o (λ t. (t.start ≡ from.offset) × (t.end ≡ to.offset))) }
 {
     let at = from.place();

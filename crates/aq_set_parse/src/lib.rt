@@ -1,7 +1,7 @@
 //! The text of a set file: its tokens and its syntax tree, with their places.
 //!
-//! `tokens_of_sets` gives the tokens of the one cut of a text, by `specs/Rules` and `specs/Cuts`. `parse_sets` gives the tree of
-//! a list of tokens by `specs/SetGrammar`, or its first fault by `specs/Verdict`.
+//! `tokens_of_sets` gives the tokens of the one cut of a text, by `specs/Rules` and `specs/Cuts`. `parse_sets` gives
+//! the tree of a list of tokens by `specs/SetGrammar`, or its first fault by `specs/Verdict`.
 #![tactic(auto)]
 
 mod exprs;

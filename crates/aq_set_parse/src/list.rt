@@ -32,7 +32,8 @@ impl<'a> SetTokens<'a> {
     /// The bytes of the token at a place in the list.
     pub fn text(&self, i: usize) -> &[u8]
         requires { i < length self.now.list }
-        ensures { (t : SetToken) → slice_get self.now.list i ≡ Some t → result.now ≡ slice_range self.now.source t.start t.end }
+        ensures { (t : SetToken) → slice_get self.now.list i ≡ Some t
+            → result.now ≡ slice_range self.now.source t.start t.end }
     {
         let token = self.list[i];
         &self.source[token.start as usize..token.end as usize]

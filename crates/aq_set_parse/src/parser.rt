@@ -19,7 +19,7 @@ use std::alloc::{AllocError, Global};
 
 impl From<AllocError> for SetParseFault {
     ghost use Rattle.std.specs.Prelude.{◌≡◌};
-ghost use Rattle.aq_base.specs.Limits.{most_nested};
+    ghost use Rattle.aq_base.specs.Limits.{most_nested};
     ghost use Rattle.aq_set_parse.specs.declared.parse_fault.SetParseFault.TheVariants.{Memory};
 
     ghost from_gives = { λ _ e. e ≡ Memory };
@@ -77,8 +77,8 @@ fn tree_of_list<'a>(alloc: Global, list: &'a [SetLexeme<'a>]) -> Result<SetTree,
     }
 }
 
-/// The tree of a set file's tokens by the grammar, in which parentheses nest at most 64 deep; or the first fault, at its
-/// token. `Memory` may come at any tokens.
+/// The tree of a set file's tokens by the grammar, in which parentheses nest at most 64 deep; or the first fault, at
+/// its token. `Memory` may come at any tokens.
 pub fn parse_sets(alloc: Global, tokens: &SetTokens<'_>) -> Result<SetTree, SetParseFault>
     // What is found is a tree of the tokens.
     ensures tree { IfOk result (λ tree. IsFile most_nested tree (pieces tokens.now)) }

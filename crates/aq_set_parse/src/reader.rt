@@ -1,7 +1,22 @@
 ghost use Rattle.std.specs.Prelude.{◌≡◌, []};
 ghost use Rattle.aq_grammar.specs.Words.{first};
 ghost use Rattle.aq_grammar.specs.Results.{Gives};
-ghost use Rattle.aq_set_parse.specs.Tokens.{begins, begins_number, begins_ket, begins_sign, mark_at, number_at, name_at, ket_at, value_at, plus_or_minus_at, place_of, is_sort, value_in, minus_in};
+ghost use Rattle.aq_set_parse.specs.Tokens.{
+  begins,
+  begins_number,
+  begins_ket,
+  begins_sign,
+  mark_at,
+  number_at,
+  name_at,
+  ket_at,
+  value_at,
+  plus_or_minus_at,
+  place_of,
+  is_sort,
+  value_in,
+  minus_in,
+};
 ghost use Rattle.aq_set_parse.specs.Reading.{opening_of};
 
 use crate::lexeme::{SetLexeme, SetSort};

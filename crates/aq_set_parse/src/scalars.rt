@@ -2,7 +2,24 @@ ghost use Rattle.std.specs.Prelude.{◌≡◌};
 ghost use Rattle.aq_grammar.specs.Readers.{optional};
 ghost use Rattle.aq_grammar.specs.Results.{Gives};
 ghost use Rattle.aq_set_parse.specs.Tokens.{begins, begins_number, begins_ket};
-ghost use Rattle.aq_set_parse.specs.Reading.{sign_at, int_at, exponent_at, maybe_exponent_at, omega_at, imaginary_at, turn_at, begins_turn, counted_at, next_int_at, quadruple_at, uncounted_at, scalar_at, roots_at, coef_at, no_ket};
+ghost use Rattle.aq_set_parse.specs.Reading.{
+  sign_at,
+  int_at,
+  exponent_at,
+  maybe_exponent_at,
+  omega_at,
+  imaginary_at,
+  turn_at,
+  begins_turn,
+  counted_at,
+  next_int_at,
+  quadruple_at,
+  uncounted_at,
+  scalar_at,
+  roots_at,
+  coef_at,
+  no_ket,
+};
 ghost use Rattle.aq_set_parse.specs.declared.mark.SetMark.TheVariants as marks;
 
 use crate::lexeme::SetLexeme;

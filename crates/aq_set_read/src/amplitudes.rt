@@ -2,10 +2,22 @@
 ghost use Rattle.std.specs.Prelude.{◌≡◌, ◌<◌, ◌^◌, SomeIff};
 ghost use Rattle.aq_ring.specs.Amplitudes.{lowest_form};
 ghost use Rattle.aq_ring.specs.Quads.{turned_by};
-ghost use Rattle.aq_set_read.specs.Coefs.{FitsNumber, FitsScalar, FitsCoef, signed, int_of, whole, turns_of, quad_of_scalar, roots_of, numerator, amplitude_of};
+ghost use Rattle.aq_set_read.specs.Coefs.{
+  FitsNumber,
+  FitsScalar,
+  FitsCoef,
+  signed,
+  int_of,
+  whole,
+  turns_of,
+  quad_of_scalar,
+  roots_of,
+  numerator,
+  amplitude_of,
+};
 
-use aq_set_parse::{SetCoef, SetInt, SetScalar, SetTurn};
 use aq_ring::Amp;
+use aq_set_parse::{SetCoef, SetInt, SetScalar, SetTurn};
 
 /// The number, negated or not. None exactly where it is above `2^127 - 1`.
 fn signed(minus: bool, number: u128) -> Option<i128>
@@ -64,8 +76,8 @@ fn scalar_over(scalar: SetScalar, roots: u32) -> Option<Amp>
     }
 }
 
-/// The coefficient's numerator, divided so many times by the square root of 2. None exactly where a number in it is out of
-/// range.
+/// The coefficient's numerator, divided so many times by the square root of 2. None exactly where a number in it is
+/// out of range.
 fn coef_over(coef: Option<SetCoef>, roots: u32) -> Option<Amp>
     ensures { SomeIff result (FitsCoef coef) (lowest_form roots (numerator coef)) }
 {
@@ -75,8 +87,8 @@ fn coef_over(coef: Option<SetCoef>, roots: u32) -> Option<Amp>
     }
 }
 
-/// The amplitude of a term whose coefficient is divided so many times by the square root of 2. None exactly where a number
-/// in it is out of range.
+/// The amplitude of a term whose coefficient is divided so many times by the square root of 2. None exactly where a
+/// number in it is out of range.
 #[tactic(auto, using(crate::proofs::CoefLaws::opposite_of_lowest), unfolding(crate::specs::Coefs::amplitude_of))]
 pub(crate) fn amplitude_of(minus: bool, coef: Option<SetCoef>, roots: u32) -> Option<Amp>
     requires { roots ≡ roots_of coef }

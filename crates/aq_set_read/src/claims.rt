@@ -7,9 +7,9 @@ use crate::collector::Collector;
 use crate::made::Made;
 use crate::make_exprs::make_expr;
 use crate::set_fault::SetFault;
-use aq_sets::{Case, Cond};
-use aq_set_parse::{SetCase, SetCond};
 use aq_lex::Text;
+use aq_set_parse::{SetCase, SetCond};
+use aq_sets::{Case, Cond};
 use sqlite_items::Items;
 use std::alloc::{AllocError, Global};
 

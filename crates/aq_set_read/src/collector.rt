@@ -7,9 +7,9 @@ ghost use Rattle.aq_set_read.specs.declared.set_fault.SetFault.TheVariants as fa
 use crate::made::Made;
 use crate::set_fault::SetFault;
 use aq_base::{MOST_NAMES, MOST_NODES};
-use aq_sets::{Case, Expr, NamedClaim, NamedSet, Sets};
-use aq_set_parse::SetWord;
 use aq_lex::{Place, Text};
+use aq_set_parse::SetWord;
+use aq_sets::{Case, Expr, NamedClaim, NamedSet, Sets};
 use indexmap::IndexMap;
 use sqlite_items::Items;
 use std::alloc::Global;
@@ -31,7 +31,14 @@ impl Model for Collector {
 
     ghost Value = { Gathered };
 
-    ghost view = { λ g. record { exprs = g.exprs; nodes = g.nodes; names = g.names.entries; sets = g.sets; claims = g.claims } };
+    ghost view = { λ g. record {
+      exprs = g.exprs;
+      nodes = g.nodes;
+      names = g.names.entries;
+      sets = g.sets;
+      claims =
+          g.claims;
+    } };
 
     ghost invariant = { λ g. IsWithin g.exprs g.nodes };
 }

@@ -12,9 +12,11 @@ pub fn set_files()
     // At most one list of sets and claims.
     ensures sets { (text : List ℕ) (a b : Sets) → SaysSets text a → SaysSets text b → a ≡ b }
     // At most one first fault, but for want of memory.
-    ensures fault { (text : List ℕ) (e f : SetFault) → SetFaultOf text e → SetFaultOf text f → (e ≡ faults.Memory → ⊥) → (f ≡ faults.Memory → ⊥) → e ≡ f }
+    ensures fault { (text : List ℕ) (e f : SetFault) → SetFaultOf text e → SetFaultOf text f → (e ≡ faults.Memory
+        → ⊥) → (f ≡ faults.Memory → ⊥) → e ≡ f }
     // Not both.
-    ensures apart { (text : List ℕ) (sets : Sets) (f : SetFault) → SaysSets text sets → SetFaultOf text f → (f ≡ faults.Memory → ⊥) → ⊥ }
+    ensures apart { (text : List ℕ) (sets : Sets) (f : SetFault) → SaysSets text sets → SetFaultOf text f →
+        (f ≡ faults.Memory → ⊥) → ⊥ }
     // What it says is valid, as is what any tree means.
     ensures valid { (text : List ℕ) (sets : Sets) → SaysSets text sets → IsValidSets sets }
     ensures meaning { (tree : SetTree) (sets : Sets) → sets_of tree ≡ Ok sets → IsValidSets sets }

@@ -51,7 +51,8 @@ fn make_tensors(
     collector: &mut Collector,
     factors: &[SetFactor],
 ) -> Result<Made, SetFault>
-    ensures meaning { Gives (λ m. step collector.new m) result (chained tensored (map factor_of factors.now) collector.old) }
+    ensures meaning { Gives (λ m. step collector.new m) result (chained tensored
+        (map factor_of factors.now) collector.old) }
     ensures names { collector.new.names ≡ collector.old.names }
 {
     let Some((first, rest)) = factors.split_first() else {

@@ -8,8 +8,8 @@ use crate::claims::{cases_made, cases_of, first_qubits, same_qubits};
 use crate::collector::Collector;
 use crate::make_exprs::make_expr;
 use crate::set_fault::SetFault;
-use aq_sets::Sets;
 use aq_set_parse::{SetCase, SetExpr, SetItem, SetTree, SetWord};
+use aq_sets::Sets;
 use std::alloc::Global;
 
 /// Takes a set.
@@ -63,8 +63,8 @@ fn items(alloc: Global, collector: &mut Collector, items: &[SetItem]) -> Result<
     Ok(())
 }
 
-/// What a tree says; or the first fault, item by item. A tree whose coefficients have a number above `2^127 - 1`, which no
-/// text has, may be answered by `Memory`.
+/// What a tree says; or the first fault, item by item. A tree whose coefficients have a number above `2^127 - 1`,
+/// which no text has, may be answered by `Memory`.
 #[tactic(auto, unfolding(crate::specs::Meaning::sets_of))]
 pub(crate) fn sets_of_tree(alloc: Global, tree: &SetTree) -> Result<Sets, SetFault>
     ensures { Gives (λ s. s) result (sets_of tree.now) }

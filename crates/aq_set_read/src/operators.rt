@@ -7,9 +7,9 @@ use crate::collector::Collector;
 use crate::made::Made;
 use crate::set_fault::SetFault;
 use aq_base::MOST_QUBITS;
-use aq_sets::Expr;
-use aq_set_parse::SetPower;
 use aq_lex::Place;
+use aq_set_parse::SetPower;
+use aq_sets::Expr;
 
 /// The number of qubits, from 1 to 16. None exactly where it is out of this range.
 pub(crate) fn qubits_within(number: u128) -> Option<u32>

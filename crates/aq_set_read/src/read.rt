@@ -4,14 +4,10 @@ ghost use Rattle.aq_set_read.specs.Texts.{HasSetTree, HasTreeFault, SaysSets, Se
 ghost use Rattle.aq_set_parse.specs.Told.{FaultOf};
 ghost use Rattle.aq_sets.specs.Valid.{IsValidSets};
 
-use aq_set_parse::SetLexFault;
-use aq_set_parse::tokens_of_sets;
 use crate::meaning::sets_of_tree;
-use aq_set_parse::SetParseFault;
-use aq_set_parse::parse_sets;
 use crate::set_fault::SetFault;
+use aq_set_parse::{SetLexFault, SetParseFault, SetTree, parse_sets, tokens_of_sets};
 use aq_sets::Sets;
-use aq_set_parse::SetTree;
 use std::alloc::Global;
 
 /// The fault of a set file whose bytes have this fault.

@@ -24,8 +24,8 @@ pub enum SetFault {
     TwiceNamed { at: Place },
     /// A name that no earlier set has. At the name.
     UnknownSet { at: Place },
-    /// No qubits or more than 16: at the ket, the word `all`, the `^` or the `*`. Sides of a union of different qubits: at
-    /// the `union`. Cases of a claim of different qubits: at the first token of the later case.
+    /// No qubits or more than 16: at the ket, the word `all`, the `^` or the `*`. Sides of a union of different
+    /// qubits: at the `union`. Cases of a claim of different qubits: at the first token of the later case.
     QubitCount { at: Place },
     /// A division by `sqrt2` to a power above `2^32 - 1`. At the term's first token.
     AmpTooWide { at: Place },

@@ -1,7 +1,7 @@
 //! Named sets of states and claims: their types, the vectors that an expression lists, and how large it is.
 //!
-//! The definitions are in `specs/`: `Vectors` lists what an expression stands for, `Sizes` has its qubits, shape, words, nodes
-//! and the place to which a word leads, and `Valid` says when sets are well put together.
+//! The definitions are in `specs/`: `Vectors` lists what an expression stands for, `Sizes` has its qubits, shape,
+//! words, nodes and the place to which a word leads, and `Valid` says when sets are well put together.
 #![tactic(auto)]
 
 pub mod laws;

@@ -33,8 +33,8 @@ pub struct NamedSet {
     pub expr: u32,
 }
 
-/// A condition on a bit, or on a bit of a register by its number: the value that it is to have. The name isn't looked up
-/// here.
+/// A condition on a bit, or on a bit of a register by its number: the value that it is to have. The name isn't looked
+/// up here.
 #[derive(Debug, Drop)]
 pub struct Cond {
     pub bit: Text,
@@ -56,8 +56,8 @@ pub struct NamedClaim {
     pub cases: Items<Case>,
 }
 
-/// What a set file says. The expressions stand in the order in which they are put together, inner ones before outer ones
-/// and left ones before right ones.
+/// What a set file says. The expressions stand in the order in which they are put together, inner ones before outer
+/// ones and left ones before right ones.
 #[derive(Debug, Drop)]
 pub struct Sets {
     pub exprs: Items<Expr>,

@@ -1,5 +1,25 @@
 //! How large the expressions of a set file are: numbers without a width, told up to a limit.
-ghost use Rattle.std.specs.Prelude.{◌≡◌, ℕ, ◌+◌, ◌*◌, ◌^◌, ◌<◌, ◌≤◌, ◌++◌, ◌∷◌, [], IfOk, length, map, max, replicate, slice_get, slice_index, Some, take};
+ghost use Rattle.std.specs.Prelude.{
+  ◌≡◌,
+  ℕ,
+  ◌+◌,
+  ◌*◌,
+  ◌^◌,
+  ◌<◌,
+  ◌≤◌,
+  ◌++◌,
+  ◌∷◌,
+  [],
+  IfOk,
+  length,
+  map,
+  max,
+  replicate,
+  slice_get,
+  slice_index,
+  Some,
+  take,
+};
 ghost use Rattle.std.specs.List.{repeat};
 ghost use Rattle.aq_sets.specs.Sizes.{larger, united_shape, words, size_of};
 ghost use Rattle.aq_sets.specs.Valid.{IsValidSets, IsValidExpr};
@@ -87,7 +107,13 @@ fn size_at(alloc: Global, exprs: &[Expr], done: &[Size], i: usize) -> Result<Siz
 }
 
 fn bracket_size(alloc: Global, qubits: u32, terms: usize) -> Result<Size, AllocError>
-    ensures { IfOk result (λ size. size ≡ record { qubits = qubits; count = 1; shape = replicate qubits 1; nodes = capped (1 + terms) }) }
+    ensures { IfOk result (λ size. size ≡ record {
+      qubits = qubits;
+      count = 1;
+      shape = replicate qubits 1;
+      nodes =
+          capped (1 + terms);
+    }) }
 {
     let shape = Vec::from_elem(alloc, 1u128, qubits as usize)?;
     Ok(Size {
@@ -100,7 +126,12 @@ fn bracket_size(alloc: Global, qubits: u32, terms: usize) -> Result<Size, AllocE
 
 fn basis_size(alloc: Global, qubits: u32) -> Result<Size, AllocError>
     requires { qubits ≤ 16 }
-    ensures { IfOk result (λ size. size ≡ record { qubits = qubits; count = 2 ^ qubits; shape = replicate qubits 2; nodes = 1 }) }
+    ensures { IfOk result (λ size. size ≡ record {
+      qubits = qubits;
+      count = 2 ^ qubits;
+      shape = replicate qubits 2;
+      nodes = 1;
+    }) }
 {
     let shape = Vec::from_elem(alloc, 2u128, qubits as usize)?;
     Ok(Size {

@@ -1,7 +1,5 @@
-use Rattle.std.proofs.Common.{◌≡◌, ◌<◌, ◌+◌, ◌*◌, List, drop, false, length}
-use Rattle.std.specs.List.{list_any}
-use Rattle.aq_prog.specs.Cuts.{has_loop}
-use Rattle.aq_plain.specs.Replaying.{ArePlayable, state_of}
+use Rattle.std.proofs.Common.{◌≡◌, ◌+◌, ◌*◌, drop, length}
+use Rattle.aq_plain.specs.Replaying.{state_of}
 use Rattle.aq_plain.proofs.PlayLaws.{LeadsOn, weight, weight_of}
 use Rattle.aq_plain.proofs.player.+playing.Given as goal
 

@@ -1,5 +1,5 @@
-use Rattle.std.proofs.Common.{◌≡◌, ◌<◌, ◌∙◌, sym, refl, length, List, ap, arith, false}
-use Rattle.aq_plain.specs.Replaying.{state_of, stop_of}
+use Rattle.std.proofs.Common.{◌<◌, ◌∙◌, sym, refl, length, arith}
+use Rattle.aq_plain.specs.Replaying.{state_of}
 use Rattle.aq_plain.proofs.PlayLaws.{left_over, stops_so}
 use Rattle.aq_plain.proofs.replaying.replay.Goals as goal
 

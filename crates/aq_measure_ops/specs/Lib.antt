@@ -1,0 +1,4 @@
+pub mod Budget
+pub mod Joining
+pub mod Padding
+pub mod Projection
