@@ -1,5 +1,5 @@
 -- Kept runs and runs are one to one, and a push and a read by halves are right.
-use Rattle.std.proofs.Common.{◌≡◌, ℕ, zero, suc, ◌+◌, ◌-◌, ◌<◌, ◌≤◌, ◌⊎◌, inl, inr, Bool, true, false, ◌&&◌, leb, nat_eq, List, [], ◌∷◌, ◌++◌, length, take, drop, slice_get, get_or}
+use Rattle.std.proofs.Common.{◌≡◌, ℕ, zero, suc, ◌+◌, ◌-◌, ◌<◌, ◌≤◌, inl, inr, Bool, true, false, ◌&&◌, leb, nat_eq, List, [], ◌∷◌, ◌++◌, length, take, drop, slice_get, get_or}
 use Rattle.std.proofs.Common.{Some, refl, sym, ap, ap₂, subst, ◌∙◌, arith}
 use Rattle.std.proofs.lemmas.Bool.{leb-true, leb-false, eqb-true, cases_lt}
 use Rattle.std.specs.List.{refill}
@@ -10,7 +10,7 @@ use Rattle.std.proofs.lemmas.Option.{slice_get_within, slice_get-get_or, get_or_
 use Rattle.aq_store.specs.declared.pairs.Span.{Span}
 use Rattle.aq_store.specs.Runs.{Run, copies, run_of, pair_of, same_pair, expand, compress, IsCanonical}
 use Rattle.aq_store.specs.Spans.{runs_of, spans_from, spans_of, begin_of, HasChoice}
-use Rattle.aq_store.proofs.RunLemmas.{expand-compress, compress-expand, length-copies, before, before-all, run_at, merged, appended, last_other}
+use Rattle.aq_store.proofs.RunLemmas.{expand-compress, compress-expand, length-copies, before, before-all, run_at, merged, appended}
 
 -- ---- one to one
 spans_from-runs_of : (start : ℕ) (ss : List Span) → IsCanonical (runs_of start ss) → spans_from start (runs_of start ss) ≡ ss
@@ -111,7 +111,8 @@ begin_last ss h =
     omega arith
 
 -- the pairs under the choices of a run
-pub span_pair : (ss : List Span) (i c : ℕ) (s : Span) → IsCanonical (runs_of 0 ss) → slice_get ss i ≡ Some s → begin_of 0 ss i ≤ c → c < s.end → slice_get (expand (runs_of 0 ss)) c ≡ Some (s.left, s.right)
+pub span_pair : (ss : List Span) (i c : ℕ) (s : Span) → IsCanonical (runs_of 0 ss) → slice_get ss i ≡ Some s → begin_of 0 ss i ≤ c → c < s.end
+    → slice_get (expand (runs_of 0 ss)) c ≡ Some (s.left, s.right)
 span_pair ss i c s h e le lt =
     let within = slice_get_within ss i s e in
     let a = before-runs_of 0 ss i h (omega arith) in

@@ -12,8 +12,10 @@ pub loop-choices-preserved : goal.loop-choices-preserved
 loop-choices-preserved g c =
     let is : c.in_ok-next.next.items ≡ next_level c.args.store.now c.loop-choices.level.items = c.in_ok-next.ensures ∙ ap (next_level c.args.store.now) c.as_slice.ensures.value in
     record {
-      shaped = level_next c.args.store.now c.args.shape.now c.loop-choices.level.items c.in_ok-next.next.items c.loop-choices._choices-index c.loop-choices-test.true c.loop-choices.invariant.shaped is;
-      done = levels_more c.args.store.now c.args.shape.now c.in_ok-next.next.items c.loop-choices.levels.items c.push-in-loop-choices.new.self.items c.loop-choices.level c.loop-choices._choices-index _
+      shaped = level_next c.args.store.now c.args.shape.now c.loop-choices.level.items c.in_ok-next.next.items c.loop-choices._choices-index c.loop-choices-test.true
+          c.loop-choices.invariant.shaped is;
+      done = levels_more c.args.store.now c.args.shape.now c.in_ok-next.next.items c.loop-choices.levels.items c.push-in-loop-choices.new.self.items c.loop-choices.level
+          c.loop-choices._choices-index _
           c.loop-choices-test.true c.in_ok-push-2.ensures.items is c.loop-choices.invariant.done;
     }
 

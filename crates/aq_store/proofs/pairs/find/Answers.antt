@@ -1,4 +1,4 @@
-use Rattle.std.proofs.Common.{leb, arith, rules}
+use Rattle.std.proofs.Common.{leb, rules}
 use Rattle.std.proofs.lemmas.List.Sorted.{IsPartitionPoint-from_clause, IsPartitionedBy-leb}
 use Rattle.aq_store.specs.declared.pairs.Span.{Span}
 use Rattle.aq_store.proofs.SpanLemmas.{ends_rise, found_choice}

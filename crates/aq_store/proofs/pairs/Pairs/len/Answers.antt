@@ -1,4 +1,4 @@
-use Rattle.std.proofs.Common.{◌≡◌, ap, ap₂, ◌∙◌, length}
+use Rattle.std.proofs.Common.{ap, ap₂, ◌∙◌, length}
 use Rattle.aq_store.specs.Spans.{begin_of}
 use Rattle.aq_store.proofs.SpanLemmas.{begin_last}
 use Rattle.aq_store.proofs.pairs.Pairs.len.Goals as goal
