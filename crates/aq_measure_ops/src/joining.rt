@@ -1,4 +1,4 @@
-ghost use Rattle.std.specs.Prelude.{◌≡◌, ℕ, ◌+◌, ◌*◌, ◌^◌, ◌<◌, ◌≤◌, ◌∷◌, [], length, drop, map, IfOk, IfErr, OnOk, IsTrue};
+ghost use Rattle.std.specs.Prelude.{◌≡◌, ℕ, ◌+◌, ◌*◌, ◌^◌, ◌<◌, ◌≤◌, ◌∷◌, length, map, IfOk, IfErr, OnOk, IsTrue};
 ghost use Rattle.aq_store.specs.Nodes.{Extends, FitsStore, total_cost};
 ghost use Rattle.aq_store.specs.Memos.{memo_at, is_done};
 ghost use Rattle.aq_store.specs.Accounts.{HoldPairs, TakesOwed, PaysOwed, StopsOwed};
@@ -20,8 +20,8 @@ pub struct Joined {
     pub right_choices: u32,
 }
 
-/// The shape of the union of two shapes of one length, or of none and one. A root that has more choices than a counter has
-/// steps spends them all.
+/// The shape of the union of two shapes of one length, or of none and one. A root that has more choices than a
+/// counter has steps spends them all.
 fn united<L>(
     alloc: Global,
     left: &[u32],
@@ -70,7 +70,8 @@ fn united_all<L>(alloc: Global, parts: &[Lsta], steps: &mut Steps) -> Result<Vec
     ensures limit { steps.new.limit ≡ steps.old.limit }
     ensures later { steps.old.taken ≤ steps.new.taken }
     ensures cheap { steps.new.taken ≤ steps.old.taken + first_number (united_shapes (map shape_of parts.now)) }
-    ensures refused { IfErr result (GivesUp (first_number (united_shapes (map shape_of parts.now))) steps.old steps.new) }
+    ensures refused { let choices = first_number (united_shapes (map shape_of parts.now)) in
+        IfErr result (GivesUp choices steps.old steps.new) }
 {
     let mut shape = Vec::new(alloc);
     for part in parts {
@@ -120,9 +121,9 @@ fn join_part<L: Label>(
     )
 }
 
-/// The union of two automata with one number of levels. The choices of its root are the left side's and then the right
-/// side's, and below, both sides are padded to the larger numbers. It gives up for want of steps or of memory alone, and
-/// nodes of the store keep their meaning.
+/// The union of two automata with one number of levels. The choices of its root are the left side's and then the
+/// right side's, and below, both sides are padded to the larger numbers. It gives up for want of steps or of memory
+/// alone, and nodes of the store keep their meaning.
 pub fn union<L: Label>(
     alloc: Global,
     store: &mut Store<L>,
@@ -160,9 +161,10 @@ pub fn union<L: Label>(
     })
 }
 
-/// The union of automata with one number of levels. The choices of its root are those of the first part, then those of the
-/// second, and so on, and below, each part is padded to the largest numbers. It is the union of the unions from the left,
-/// made at once. It gives up for want of steps or of memory alone, and nodes of the store keep their meaning.
+/// The union of automata with one number of levels. The choices of its root are those of the first part, then those
+/// of the second, and so on, and below, each part is padded to the largest numbers. It is the union of the unions
+/// from the left, made at once. It gives up for want of steps or of memory alone, and nodes of the store keep their
+/// meaning.
 pub fn union_of<L: Label>(
     alloc: Global,
     store: &mut Store<L>,

@@ -9,8 +9,8 @@ use aq_store::{Id, Lsta, Pairs, Steps, Stop, Store};
 use std::alloc::Global;
 use std::test::Fail;
 
-/// An automaton above two of one shape: some choices have the first and then the second, one has the second twice, and one
-/// has the second and then the first.
+/// An automaton above two of one shape: some choices have the first and then the second, one has the second twice,
+/// and one has the second and then the first.
 fn above(
     alloc: Global,
     store: &mut Store<Amp>,
