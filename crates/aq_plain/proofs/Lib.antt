@@ -5,5 +5,4 @@ pub mod RowLaws
 pub mod PartLaws
 pub mod TakeLaws
 pub mod WholeLaws
-pub mod BuiltLaws
 pub mod PlayLaws

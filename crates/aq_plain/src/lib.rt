@@ -3,11 +3,7 @@
 #![tactic(auto)]
 
 mod apply;
-#[cfg(test)]
-mod built;
 mod listing;
-#[cfg(test)]
-mod listing_tests;
 mod parts;
 mod places;
 mod player;

@@ -1,7 +1,7 @@
 ghost use Rattle.std.specs.Prelude.{◌≡◌, ◌≢◌, ◌<◌, ◌≤◌, ◌^◌, IfOk};
 ghost use Rattle.aq_prog.specs.Gates.{AreEntries, IsValidGate};
 
-use crate::{Vector, WideSum, apply_plain, project_plain};
+use crate::{ReplayStop, Vector, WideSum, apply_plain, project_plain, replay};
 use aq_prog::{Entry, Gate, gate_named};
 use aq_ring::Amp;
 use sqlite_items::Items;
@@ -11,6 +11,10 @@ use std::test::Fail;
 /// No gate has the name.
 #[derive(Clone, Copy, Debug)]
 struct NoGate;
+
+/// A run wasn't played to its end.
+#[derive(Clone, Copy, Debug)]
+struct NotPlayed;
 
 fn rows_of(name: &[u8]) -> Result<[[Entry; 2]; 2], Fail>
     ensures { IfOk result (λ rows. AreEntries rows) }
@@ -149,5 +153,16 @@ fn one_half_is_kept(rt: HostRuntime) -> Result<(), Fail> {
     assert_eq!(rt; vector.is_zero(), false);
     project_plain(&mut vector, 0, true);
     assert_eq!(rt; vector.is_zero(), true);
+    Ok(())
+}
+
+#[test]
+fn a_run_of_nothing(rt: HostRuntime) -> Result<(), Fail> {
+    let alloc = rt.alloc();
+    let played = replay(alloc, &[], &[true], basis(alloc, 1, 1)?, &[]).map_err(|_| NotPlayed)?;
+    assert_eq!(rt; played.bits.as_slice(), [true].as_slice());
+    assert_eq!(rt; played.vector.amps(), [Amp::zero(), Amp::one()].as_slice());
+    let left = replay(alloc, &[], &[], basis(alloc, 1, 1)?, &[false, true]);
+    assert!(rt; matches!(left, Err(ReplayStop::LongOutcomes { left: 2 })));
     Ok(())
 }
