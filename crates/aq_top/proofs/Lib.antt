@@ -2,3 +2,4 @@ pub mod SayLemmas
 pub mod EndsLemmas
 pub mod ReadsLemmas
 pub mod SetsLemmas
+pub mod StateLemmas
