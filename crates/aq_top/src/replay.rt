@@ -93,7 +93,7 @@ struct Start {
 
 /// Tells a fault of the set.
 fn refused_state<'a>(set: &'a str, name: Option<&'static str>) -> Refusal<'a>
-    ensures { TellsOfSet set.entry.now (option_map (λ n. n.now) name) result }
+    ensures { TellsOfSet set.entry.now (option_map (λ n. n.now) name.entry) result }
 {
     match name {
         Some(name) => Refusal::Set { set, name },
@@ -103,7 +103,7 @@ fn refused_state<'a>(set: &'a str, name: Option<&'static str>) -> Refusal<'a>
 
 /// Tells a fault of the replay.
 fn refused_replay<'a>(name: Option<&'static str>) -> Refusal<'a>
-    ensures { TellsOfReplay (option_map (λ n. n.now) name) result }
+    ensures { TellsOfReplay (option_map (λ n. n.now) name.entry) result }
 {
     match name {
         Some(name) => Refusal::Replay { name },
