@@ -210,10 +210,13 @@ told_task told held w s t e read says =
 some_is : (x y : CheckWords) → ◌≡◌ {A = Option Command} (Some (Check x)) (Some (Check y)) → x ≡ y
 some_is x y e = cc
 
+no_check : (v : ReplayWords) (w : CheckWords) → ◌≡◌ {A = Option Command} (Some (Replay v)) (Some (Check w)) → ⊥
+no_check v w e = cc
+
 -- and its program is correct
 pub report_is_correct : (told : Option Held) (words : Option Command) (text : List ℕ) → IsReportOf told words status.Good text → ToldIsCorrect told words
 report_is_correct told None text r = absurd r
-report_is_correct told (Some (Replay v)) text r = λ held w t told_is words_are says. cc
+report_is_correct told (Some (Replay v)) text r = λ held w t told_is words_are says. absurd (no_check v w words_are)
 report_is_correct told (Some (Check v)) text r = λ held w t told_is words_are says.
     let same : v ≡ w = some_is v w words_are in
     let read : ReadsTask told w r.task = subst (λ (x : CheckWords). ReadsTask told x r.task) same r.read in
