@@ -18,6 +18,14 @@ sets_line at said = codes "refused: sets " ++ (decimal at.line ++ (codes ":" ++ 
 unfoldable pub claim_line : List ℕ → List ℕ → List ℕ
 claim_line claim said = codes "refused: claim " ++ (claim ++ (codes ": " ++ (said ++ newline)))
 
+-- a line of a set: its name, and what is said of it
+unfoldable pub set_line : List ℕ → List ℕ → List ℕ
+set_line set said = codes "refused: set " ++ (set ++ (codes ": " ++ (said ++ newline)))
+
+-- a line of a run that isn't replayed: what is said of it
+unfoldable pub replay_line : List ℕ → List ℕ
+replay_line said = codes "refused: replay: " ++ (said ++ newline)
+
 -- the line of a file that could not be read
 unfoldable pub read_fault_line : List ℕ → List ℕ
 read_fault_line file = codes "read fault: " ++ (file ++ newline)
@@ -31,5 +39,7 @@ refusal_text refusal.ProgramUnbuilt = codes "refused: program: Unbuilt" ++ newli
 refusal_text (refusal.Sets at name) = sets_line at name.now
 refusal_text refusal.SetsTooLong = codes "refused: sets: TooLong" ++ newline
 refusal_text (refusal.Claim claim name) = claim_line claim name.now
+refusal_text (refusal.Set set name) = set_line set.now name.now
+refusal_text (refusal.Replay name) = replay_line name.now
 refusal_text (refusal.ReadFault file) = read_fault_line file.now
 refusal_text refusal.OutOfMemory = codes "out of memory" ++ newline

@@ -69,6 +69,10 @@ why_text why.Width = codes "width"
 why_text why.Steps = codes "steps"
 why_text why.Memory = codes "memory"
 
+-- the end of a replayed run: its bits and the entries of its vector
+abbrev pub replay_text : List Bool → StateVector → List ℕ
+replay_text bits v = state_text (codes "bits ") (codes "end ") bits v
+
 -- the line that a refutation begins with
 unfoldable pub refuted_line : List ℕ
 refuted_line = codes "refuted" ++ newline

@@ -7,6 +7,6 @@ mod refusal;
 mod tests;
 mod verdict;
 
-pub use print::{print_summary, print_verdict};
+pub use print::{print_replay, print_summary, print_verdict};
 pub use refusal::{Refusal, print_refusal};
 pub use verdict::{Refutation, Verdict, Why};

@@ -11,6 +11,7 @@ ghost use Rattle.aq_report.specs.Texts.{
   entries_text,
   bits_line,
   refutation_text,
+  replay_text,
   why_text,
   outcome_text,
   verdict_text,
@@ -21,7 +22,7 @@ ghost use Rattle.aq_report.specs.Texts.{
 
 use crate::verdict::{Refutation, Verdict, Why};
 use aq_obligations::Kind;
-use aq_plain::Vector;
+use aq_plain::{Played, Vector};
 use aq_ring::Amp;
 use aq_world::{Piece, Sink, SinkFault, put_pieces, put_text};
 
@@ -238,4 +239,16 @@ pub fn print_summary<K: Sink>(
             Piece::Text(b"\n"),
         ],
     )
+}
+
+/// Prints the end of a replayed run: the line `bits 01` with its bits, and a line `end |01> (1,0,0,-2)/3` for each entry
+/// of its vector that isn't zero. No bits are `-`.
+///
+/// `Failed` and `Memory` are the sink's own, and what was put is then a front of these lines.
+#[tactic(auto, unfolding(crate::specs::Texts::state_text))]
+pub fn print_replay<K: Sink>(out: &mut K, end: &Played) -> Result<(), SinkFault>
+    ensures { Prints K.meaning out.old out.new result (replay_text end.now.bits end.now.vector) }
+{
+    print_bits(out, b"bits ", end.bits.as_slice())?;
+    print_entries(out, b"end ", &end.vector)
 }

@@ -1,7 +1,15 @@
 //! What is refused by name, and what could not be had, with their lines.
 ghost use Rattle.std.specs.Prelude.{◌++◌, codes};
 ghost use Rattle.aq_world.specs.Prints.{Prints};
-ghost use Rattle.aq_report.specs.Refusals.{program_line, sets_line, claim_line, read_fault_line, refusal_text};
+ghost use Rattle.aq_report.specs.Refusals.{
+  program_line,
+  sets_line,
+  claim_line,
+  set_line,
+  replay_line,
+  read_fault_line,
+  refusal_text,
+};
 
 use aq_lex::{Place, Text};
 use aq_world::{Piece, Sink, SinkFault, put_pieces, put_text};
@@ -40,6 +48,18 @@ pub enum Refusal<'a> {
     Claim {
         /// The claim's name.
         claim: Text,
+        /// The fault's name.
+        name: &'a str,
+    },
+    /// A state can't be had of the set.
+    Set {
+        /// The set's name.
+        set: &'a str,
+        /// The fault's name.
+        name: &'a str,
+    },
+    /// A run isn't replayed to its end.
+    Replay {
         /// The fault's name.
         name: &'a str,
     },
@@ -113,6 +133,38 @@ fn print_claim<'a, K: Sink>(out: &mut K, claim: &'a [u8], name: &'a [u8]) -> Res
     )
 }
 
+/// A line of a set: its name, and the fault's.
+#[tactic(auto, unfolding(crate::specs::Refusals::set_line))]
+fn print_set<'a, K: Sink>(out: &mut K, set: &'a [u8], name: &'a [u8]) -> Result<(), SinkFault>
+    ensures { Prints K.meaning out.old out.new result (set_line set.entry.now name.entry.now) }
+{
+    put_pieces(
+        out,
+        &[
+            Piece::Text(b"refused: set "),
+            Piece::Text(set),
+            Piece::Text(b": "),
+            Piece::Text(name),
+            Piece::Text(b"\n"),
+        ],
+    )
+}
+
+/// The line of a run that isn't replayed: the fault's name.
+#[tactic(auto, unfolding(crate::specs::Refusals::replay_line))]
+fn print_replay_refusal<K: Sink>(out: &mut K, name: &[u8]) -> Result<(), SinkFault>
+    ensures { Prints K.meaning out.old out.new result (replay_line name.now) }
+{
+    put_pieces(
+        out,
+        &[
+            Piece::Text(b"refused: replay: "),
+            Piece::Text(name),
+            Piece::Text(b"\n"),
+        ],
+    )
+}
+
 /// The line of a file that could not be read.
 #[tactic(auto, unfolding(crate::specs::Refusals::read_fault_line))]
 fn print_read_fault<K: Sink>(out: &mut K, file: &[u8]) -> Result<(), SinkFault>
@@ -143,6 +195,8 @@ pub fn print_refusal<K: Sink>(out: &mut K, refusal: &Refusal<'_>) -> Result<(), 
         Refusal::Sets { at, name } => print_sets(out, *at, name.as_bytes()),
         Refusal::SetsTooLong => put_text(out, b"refused: sets: TooLong\n"),
         Refusal::Claim { claim, name } => print_claim(out, claim.as_slice(), name.as_bytes()),
+        Refusal::Set { set, name } => print_set(out, set.as_bytes(), name.as_bytes()),
+        Refusal::Replay { name } => print_replay_refusal(out, name.as_bytes()),
         Refusal::ReadFault { file } => print_read_fault(out, file.as_bytes()),
         Refusal::OutOfMemory => put_text(out, b"out of memory\n"),
     }

@@ -1,9 +1,9 @@
 ghost use Rattle.std.specs.Prelude.{◌≡◌, ◌<◌, ◌≤◌, ◌^◌, IfOk};
 
-use crate::{Refutation, Verdict, Why, print_summary, print_verdict};
+use crate::{Refutation, Verdict, Why, print_replay, print_summary, print_verdict};
 use aq_lex::Text;
 use aq_obligations::Kind;
-use aq_plain::Vector;
+use aq_plain::{Played, Vector};
 use aq_ring::Amp;
 use aq_world::{HonestSink, MemorySink, Sink};
 use sqlite_items::Items;
@@ -16,6 +16,10 @@ fn verdict_by<K: Sink>(out: &mut K, number: u32, kind: Kind, line: u32, verdict:
 
 fn summary_by<K: Sink>(out: &mut K, verified: u32, refuted: u32, gave_up: u32) -> bool {
     print_summary(out, verified, refuted, gave_up).is_ok()
+}
+
+fn replay_by<K: Sink>(out: &mut K, end: &Played) -> bool {
+    print_replay(out, end).is_ok()
 }
 
 fn empty_sink(alloc: Global) -> HonestSink {
@@ -124,6 +128,21 @@ fn a_refutation_with_bits(rt: HostRuntime) -> Result<(), Fail> {
         b"3 keep line 12: refuted\n  bits 100\n  state |01> (1,0,0,0)/0\n  outcomes 01\n  end bits 011\n  \
         end |00> (1,0,0,-2)/3\n  end |11> (0,-15,4,0)/0\n";
     assert_eq!(rt; out.bytes.as_slice(), wanted.as_slice());
+    Ok(())
+}
+
+#[test]
+fn the_end_of_a_replay(rt: HostRuntime) -> Result<(), Fail> {
+    let end = Played {
+        bits: Items::from_slice(rt.alloc(), &[false, true])?,
+        vector: basis(rt.alloc(), 2, 2)?,
+    };
+    let mut out = empty_sink(rt.alloc());
+    assert!(rt; replay_by(&mut out, &end));
+    assert_eq!(rt;
+        out.bytes.as_slice(),
+        b"bits 01\nend |10> (1,0,0,0)/0\n".as_slice()
+    );
     Ok(())
 }
 

@@ -1,5 +1,5 @@
 -- How the parts of a run make its ends, and what these say.
-use Rattle.std.proofs.Common.{◌≡◌, ℕ, true, List, Option, Some, None, Result, Ok, Err, refl, sym, ap₂, ◌∙◌, subst, ◌⊎◌, inl, inr}
+use Rattle.std.proofs.Common.{◌≡◌, ℕ, Bool, true, List, Option, Some, None, Result, Ok, Err, refl, sym, ap₂, ◌∙◌, subst, ◌⊎◌, inl, inr}
 use Rattle.std.specs.Io.KnownBytes.{Appends}
 use Rattle.aq_base.specs.Limits.{most_steps}
 use Rattle.aq_world.specs.Causes.{Rose}
@@ -13,7 +13,12 @@ use Rattle.aq_obligations.specs.Obligations.{Meaning, IsTrueOf}
 use Rattle.aq_correct.proofs.GatesOnlyProofs.{gates_only_laws}
 use Rattle.aq_obligations.specs.Bound.{Asked}
 use Rattle.aq_obligations.specs.declared.bound.ClaimFault.{ClaimFault}
+use Rattle.aq_prog.specs.declared.program.Program.{Program}
+use Rattle.aq_ring.specs.Fractions.{Amplitude}
+use Rattle.aq_plain.specs.Replaying.{Replays}
+use Rattle.aq_plain.specs.declared.replay_stop.Played.{Played}
 use Rattle.aq_report.specs.Refusals.{refusal_text}
+use Rattle.aq_report.specs.Texts.{replay_text}
 use Rattle.aq_report.specs.Verdicts.{IsJustified}
 use Rattle.aq_report.specs.declared.refusal.Refusal.{Refusal}
 use Rattle.aq_report.specs.declared.refusal.Refusal.TheVariants as refusal
@@ -22,11 +27,12 @@ use Rattle.aq_report.specs.declared.verdict.Verdict.TheVariants as verdict
 use Rattle.aq_elab.proofs.TextsLaws.{one_program}
 use Rattle.aq_judge.specs.Bodies.{are_gates, gates_in}
 use Rattle.aq_judge.proofs.StmtLaws.{body_is}
-use Rattle.aq_top.specs.Check.{CheckWords, CheckCause, CheckEnd, IsReport, ReadsTask, verdict_status, post_report}
-use Rattle.aq_top.specs.Clauses.{IsAnswer, IsReportOf, StatusSays, ToldIsCorrect}
-use Rattle.aq_top.specs.Commands.{Command, Check, RunEnd}
+use Rattle.aq_top.specs.Check.{CheckWords, CheckCause, CheckEnd, GatesCause, IsReport, ReadsTask, verdict_status, post_report}
+use Rattle.aq_top.specs.Clauses.{IsAnswer, IsReportOf, StatusSays, TellsTheRun, ToldIsCorrect}
+use Rattle.aq_top.specs.Commands.{Command, Check, Replay, RunEnd}
 use Rattle.aq_top.specs.Ends.{Ends, EndsAs, IsText, StoppedBy, refusal_status, status_of}
-use Rattle.aq_top.specs.Reads.{MayHold}
+use Rattle.aq_top.specs.Reads.{MayHold, ProgramCause}
+use Rattle.aq_top.specs.Replay.{ReplayWords, ReplayCause, ReplayEnd, IsReplay, ReadsStart, begins}
 use Rattle.aq_top.specs.Tasks.{Task, IsTask, claims_asked, enough_for, obligation_of, program_of}
 use Rattle.aq_top.specs.declared.status.Status.{Status}
 use Rattle.aq_top.specs.declared.status.Status.TheVariants as status
@@ -73,6 +79,19 @@ pub refused_end : (told : Option Held) (RF : List ℕ → Type 0) (w : CheckWord
     → (s : Status) (text : List ℕ) → IsText (refusal_status r) (refusal_text r) s text → CheckEnd told RF w s text
 refused_end told RF w r cause s text e = inr (record { refusal = r; cause = cause; status_is = e.0; text_is = e.1 })
 
+-- ---- replays
+
+-- the end of a run that is said is an end of a replay, and so is a refusal
+pub replay_end : (told : Option Held) (RF : List ℕ → Type 0) (w : ReplayWords) (p : Program) (v : List Amplitude) (outcomes : List Bool) (end : Played)
+    → ReadsStart told w p v outcomes → Replays p.qubits p.body (begins p v outcomes) (Ok end)
+    → (s : Status) (text : List ℕ) → IsText status.Good (replay_text end.bits end.vector) s text → ReplayEnd told RF w s text
+replay_end told RF w p v outcomes end read replays s text e =
+    inl (record { program = p; vector = v; outcomes = outcomes; read = read; end = end; replays = replays; status_is = e.0; text_is = e.1 })
+
+pub unplayed_end : (told : Option Held) (RF : List ℕ → Type 0) (w : ReplayWords) (r : Refusal) → ReplayCause told RF w r
+    → (s : Status) (text : List ℕ) → IsText (refusal_status r) (refusal_text r) s text → ReplayEnd told RF w s text
+unplayed_end told RF w r cause s text e = inr (record { refusal = r; cause = cause; status_is = e.0; text_is = e.1 })
+
 -- ---- what a status says
 
 verdict_says : (told : Option Held) (RF : List ℕ → Type 0) (WF : Type 0) (w : CheckWords) (v : Verdict) (text : List ℕ) → IsReport told w (verdict_status v) text
@@ -82,7 +101,8 @@ verdict_says told RF WF w (verdict.Refuted x) text r = r
 verdict_says told RF WF w (verdict.GaveUp x) text r = r
 
 read_failed : (told : Option Held) (RF : List ℕ → Type 0) (w : CheckWords) (r : Refusal) → refusal_status r ≡ status.Read → CheckCause told RF w r → RF w.program ⊎ RF w.sets
-read_failed told RF w (refusal.ReadFault file) e (inl cause) = inl cause.1
+read_failed told RF w (refusal.ReadFault file) e (inl (inl cause)) = inl cause.1
+read_failed told RF w (refusal.ReadFault file) e (inl (inr cause)) = cc
 read_failed told RF w (refusal.ReadFault file) e (inr (inl behind)) = inr behind.then.1
 read_failed told RF w (refusal.ReadFault file) e (inr (inr claims)) = absurd claims.tells
 read_failed told RF w refusal.OutOfMemory e cause = cc
@@ -102,10 +122,34 @@ check_says told RF WF w s text (inl r) =
 check_says told RF WF w s text (inr r) =
     subst (λ (x : Status). StatusSays told RF WF (Some (Check w)) x text) (sym r.status_is) (refusal_says told RF WF w r.refusal text r.cause)
 
+replay_read_failed : (told : Option Held) (RF : List ℕ → Type 0) (w : ReplayWords) (r : Refusal) → refusal_status r ≡ status.Read → ReplayCause told RF w r → RF w.program ⊎ RF w.sets
+replay_read_failed told RF w (refusal.ReadFault file) e (inl cause) = inl cause.1
+replay_read_failed told RF w (refusal.ReadFault file) e (inr (inl sets)) = inr sets.cause.1
+replay_read_failed told RF w (refusal.ReadFault file) e (inr (inr (inl state))) = absurd state.tells
+replay_read_failed told RF w (refusal.ReadFault file) e (inr (inr (inr (inl digits)))) = absurd digits.tells
+replay_read_failed told RF w (refusal.ReadFault file) e (inr (inr (inr (inr halted)))) = absurd halted.tells
+replay_read_failed told RF w refusal.OutOfMemory e cause = cc
+replay_read_failed told RF w _ e cause = cc
+
+replay_refusal_says : (told : Option Held) (RF : List ℕ → Type 0) (WF : Type 0) (w : ReplayWords) (r : Refusal) (text : List ℕ) → ReplayCause told RF w r
+    → StatusSays told RF WF (Some (Replay w)) (refusal_status r) text
+replay_refusal_says told RF WF w (refusal.ReadFault file) text cause = replay_read_failed told RF w (refusal.ReadFault file) refl cause
+replay_refusal_says told RF WF w refusal.OutOfMemory text cause = tt
+replay_refusal_says told RF WF w _ text cause = tt
+
+replay_says : (told : Option Held) (RF : List ℕ → Type 0) (WF : Type 0) (w : ReplayWords) (s : Status) (text : List ℕ) → ReplayEnd told RF w s text
+    → StatusSays told RF WF (Some (Replay w)) s text
+replay_says told RF WF w s text (inl r) =
+    subst (λ (x : Status). StatusSays told RF WF (Some (Replay w)) x text) (sym r.status_is)
+    (subst (λ (x : Status). IsReplay told w x text) r.status_is r)
+replay_says told RF WF w s text (inr r) =
+    subst (λ (x : Status). StatusSays told RF WF (Some (Replay w)) x text) (sym r.status_is) (replay_refusal_says told RF WF w r.refusal text r.cause)
+
 run_says : (told : Option Held) (RF : List ℕ → Type 0) (WF : Type 0) (words : Option Command) (s : Status) (text : List ℕ) → RunEnd told RF words s text
     → StatusSays told RF WF words s text
 run_says told RF WF None s text e = subst (λ (x : Status). StatusSays told RF WF None x text) (sym e.0) refl
 run_says told RF WF (Some (Check w)) s text e = check_says told RF WF w s text e
+run_says told RF WF (Some (Replay w)) s text e = replay_says told RF WF w s text e
 
 -- what was written goes with what the status says
 pub status_says : {S : Type 0} (sink : SinkMeaning S) (old new : S) (told : Option Held) (RF : List ℕ → Type 0) (words : Option Command) (result : Status)
@@ -166,12 +210,24 @@ told_task told held w s t e read says =
 some_is : (x y : CheckWords) → ◌≡◌ {A = Option Command} (Some (Check x)) (Some (Check y)) → x ≡ y
 some_is x y e = cc
 
+no_check : (v : ReplayWords) (w : CheckWords) → ◌≡◌ {A = Option Command} (Some (Replay v)) (Some (Check w)) → ⊥
+no_check v w e = cc
+
 -- and its program is correct
 pub report_is_correct : (told : Option Held) (words : Option Command) (text : List ℕ) → IsReportOf told words status.Good text → ToldIsCorrect told words
 report_is_correct told None text r = absurd r
+report_is_correct told (Some (Replay v)) text r = λ held w t told_is words_are says. absurd (no_check v w words_are)
 report_is_correct told (Some (Check v)) text r = λ held w t told_is words_are says.
     let same : v ≡ w = some_is v w words_are in
     let read : ReadsTask told w r.task = subst (λ (x : CheckWords). ReadsTask told x r.task) same r.read in
     let task : r.task ≡ t = told_task told held w r.task t told_is read says in
     subst (λ (x : Task). IsCorrect (program_of x)) task
     (task_correct r.task read.gates (true_of most_steps (enough_for r.task) (obligation_of r.task) r.verdict r.status_is r.justified))
+
+-- ---- a replay
+
+-- where it is good, the text is the end of the run
+pub replay_tells : (told : Option Held) (words : Option Command) (before after : Option (List ℕ)) (text : List ℕ) → Appends before after text
+    → IsReportOf told words status.Good text → TellsTheRun told words before after
+replay_tells told words before after text appends r =
+    λ w words_are. (text, appends, subst (λ (x : Option Command). IsReportOf told x status.Good text) words_are r)

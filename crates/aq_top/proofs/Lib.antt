@@ -1,4 +1,6 @@
 pub mod SayLemmas
 pub mod EndsLemmas
 pub mod ReadsLemmas
+pub mod ReplayLemmas
 pub mod SetsLemmas
+pub mod StateLemmas

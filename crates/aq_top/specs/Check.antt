@@ -1,5 +1,5 @@
 -- The command `check PROG SETS`: its words, what it reads, and how it ends.
-use Rattle.std.specs.Prelude.{◌≡◌, ℕ, ◌≤◌, true, List, [], ◌∷◌, length, Option, Some, None, Err, ◌⊎◌}
+use Rattle.std.specs.Prelude.{◌≡◌, ℕ, ◌≤◌, true, false, List, [], ◌∷◌, length, Option, Some, None, Err, ◌⊎◌}
 use Rattle.aq_base.specs.Limits.{most_program_bytes, most_sets_bytes, most_steps}
 use Rattle.aq_world.specs.Held.{Held}
 use Rattle.aq_prog.specs.declared.program.Program.{Program}
@@ -16,7 +16,7 @@ use Rattle.aq_report.specs.declared.refusal.Refusal.TheVariants as refusal
 use Rattle.aq_report.specs.declared.verdict.Verdict.{Verdict}
 use Rattle.aq_report.specs.declared.verdict.Verdict.TheVariants as verdict
 use Rattle.aq_top.specs.Ends.{IsRefused}
-use Rattle.aq_top.specs.Reads.{MayHold, ReadsProgram, ReadsSets, BehindProgram, ProgramCause, SetsCause}
+use Rattle.aq_top.specs.Reads.{MayHold, ReadsProgram, ReadsSets, ProgramCause, SetsCause}
 use Rattle.aq_top.specs.Tasks.{Task, IsTask, claims_asked, enough_for, obligation_of}
 use Rattle.aq_top.specs.declared.check.CheckWords.{CheckWords as GivenWords}
 use Rattle.aq_top.specs.declared.status.Status.{Status}
@@ -53,6 +53,23 @@ pub record ReadsTask (told : Option Held) (words : CheckWords) (t : Task) : Type
 
 -- ---- refusals
 
+-- the program's file was read, and says a program with a statement other than a gate
+pub record NotGatesAlone (told : Option Held) (name : List ℕ) : Type 0 where
+  pub program : Program
+  pub read : ReadsProgram told name program
+  pub other : are_gates program.body ≡ false
+
+-- why the program of a check is refused: as any program is, or for a statement other than a gate
+abbrev pub GatesCause : Option Held → (List ℕ → Type 0) → List ℕ → Refusal → Type 0
+GatesCause told ReadFailed name refused = ProgramCause told ReadFailed name refused ⊎ ((refused ≡ refusal.ProgramUnbuilt) × NotGatesAlone told name)
+
+-- the program has gates alone, and this holds besides
+pub record BehindProgram (told : Option Held) (name : List ℕ) (P : Type 0) : Type 0 where
+  pub program : Program
+  pub read : ReadsProgram told name program
+  pub gates : are_gates program.body ≡ true
+  pub then : P
+
 -- this is the first fault of the claims that are asked of a program; for want of memory there need be none
 abbrev pub ClaimFaultOf : Program → Sets → ClaimFault → Type 0
 ClaimFaultOf p s f = (f ≡ bound.Memory → ⊥) → claims_asked p s ≡ Err f
@@ -78,7 +95,7 @@ pub record HasClaimFault (told : Option Held) (words : CheckWords) (refused : Re
 -- claims are looked up only behind sets.
 abbrev pub CheckCause : Option Held → (List ℕ → Type 0) → CheckWords → Refusal → Type 0
 CheckCause told ReadFailed words refused =
-    ProgramCause told ReadFailed words.program refused
+    GatesCause told ReadFailed words.program refused
     ⊎ (BehindProgram told words.program (SetsCause told ReadFailed words.sets refused)
     ⊎ HasClaimFault told words refused)
 

@@ -4,7 +4,8 @@ use Rattle.std.specs.Io.KnownBytes.{Appends}
 use Rattle.aq_world.specs.Held.{Held, bytes_at}
 use Rattle.aq_obligations.specs.Correct.{IsCorrect}
 use Rattle.aq_top.specs.Check.{CheckWords, IsReport}
-use Rattle.aq_top.specs.Commands.{Command, Check}
+use Rattle.aq_top.specs.Commands.{Command, Check, Replay}
+use Rattle.aq_top.specs.Replay.{ReplayWords, IsReplay}
 use Rattle.aq_top.specs.Tasks.{Task, IsTask, program_of}
 use Rattle.aq_top.specs.declared.status.Status.{Status}
 use Rattle.aq_top.specs.declared.status.Status.TheVariants as status
@@ -16,10 +17,12 @@ IsAnswer status.Refuted = Unit {0}
 IsAnswer status.GaveUp = Unit {0}
 IsAnswer _ = ⊥
 
--- the words name two files, and the text is a report on what these files say, with justified verdicts
+-- The words name two files. The text is a report on what these say, with justified verdicts; or, where a replay is asked
+-- for, the end of the run that is played.
 abbrev pub IsReportOf : Option Held → Option Command → Status → List ℕ → Type 0
 IsReportOf told None result text = ⊥
 IsReportOf told (Some (Check w)) result text = IsReport told w result text
+IsReportOf told (Some (Replay w)) result text = IsReplay told w result text
 
 -- what the sink's bytes grew by is such a report
 abbrev pub Reports : Option Held → Option Command → Option (List ℕ) → Option (List ℕ) → Status → Type 0
@@ -31,10 +34,18 @@ abbrev pub ToldIsCorrect : Option Held → Option Command → Type 0
 ToldIsCorrect told words = (held : Held) (w : CheckWords) (t : Task) → told ≡ Some held → words ≡ Some (Check w)
     → IsTask (bytes_at held w.program) (bytes_at held w.sets) t → IsCorrect (program_of t)
 
+-- Where the words ask for a replay, the sink's bytes grew by the text of the end of the run: of the program that the one
+-- file says, from the one vector of the set that is named of those that the other says, all bits 0, with the outcomes asked
+-- for.
+abbrev pub TellsTheRun : Option Held → Option Command → Option (List ℕ) → Option (List ℕ) → Type 0
+TellsTheRun told words before after = (w : ReplayWords) → words ≡ Some (Replay w)
+    → (written : List ℕ) × Appends before after written × IsReplay told w status.Good written
+
 -- a read of one of the files that the words name failed
 abbrev pub ReadsFailed : (List ℕ → Type 0) → Option Command → Type 0
 ReadsFailed ReadFailed None = ⊥
 ReadsFailed ReadFailed (Some (Check w)) = ReadFailed w.program ⊎ ReadFailed w.sets
+ReadsFailed ReadFailed (Some (Replay w)) = ReadFailed w.program ⊎ ReadFailed w.sets
 
 -- What each status says of a run and of what it wrote.
 abbrev pub StatusSays : Option Held → (List ℕ → Type 0) → Type 0 → Option Command → Status → List ℕ → Type 0

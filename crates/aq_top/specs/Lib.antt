@@ -6,4 +6,5 @@ pub mod Ends
 pub mod Lines
 pub mod ProgramFaults
 pub mod Reads
+pub mod Replay
 pub mod Tasks

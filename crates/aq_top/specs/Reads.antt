@@ -1,5 +1,5 @@
 -- What a command reads: the program's file and the sets' file, and why they are refused.
-use Rattle.std.specs.Prelude.{◌≡◌, ℕ, ◌<◌, ◌≤◌, true, false, List, length, Option, Some, None, IfSome}
+use Rattle.std.specs.Prelude.{◌≡◌, ℕ, ◌<◌, ◌≤◌, false, List, length, Option, Some, None, IfSome}
 use Rattle.aq_base.specs.Limits.{most_program_bytes, most_sets_bytes}
 use Rattle.aq_world.specs.Causes.{Rose}
 use Rattle.aq_world.specs.Held.{Held, bytes_at}
@@ -10,7 +10,6 @@ use Rattle.aq_set_read.specs.Texts.{SaysSets, SetFaultOf}
 use Rattle.aq_set_read.specs.FaultNames as sets
 use Rattle.aq_set_read.specs.declared.set_fault.SetFault.{SetFault}
 use Rattle.aq_sets.specs.declared.sets.Sets.{Sets}
-use Rattle.aq_judge.specs.Bodies.{are_gates}
 use Rattle.aq_report.specs.declared.refusal.Refusal.{Refusal}
 use Rattle.aq_report.specs.declared.refusal.Refusal.TheVariants as refusal
 use Rattle.aq_top.specs.ProgramFaults.{HasProgramFault, fault_name, fault_place, fault_word}
@@ -47,12 +46,6 @@ pub record HasFault (told : Option Held) (name : List ℕ) (f : ProgramFault) : 
   pub fits : length bytes ≤ most_program_bytes
   pub fault : HasProgramFault bytes f
 
--- the program's file was read, and says a program with a statement other than a gate
-pub record NotGatesAlone (told : Option Held) (name : List ℕ) : Type 0 where
-  pub program : Program
-  pub read : ReadsProgram told name program
-  pub other : are_gates program.body ≡ false
-
 -- The refusal tells the fault: its place and its name, or its place and the word that isn't taken; or memory ran out.
 abbrev pub TellsProgramFault : ProgramFault → Refusal → Type 0
 TellsProgramFault f (refusal.Program at name) = (fault_place f ≡ Some at) × (fault_word f ≡ None) × (name.now ≡ fault_name f)
@@ -64,16 +57,8 @@ TellsProgramFault f _ = ⊥
 abbrev pub ProgramCause : Option Held → (List ℕ → Type 0) → List ℕ → Refusal → Type 0
 ProgramCause told ReadFailed name (refusal.ReadFault file) = (file.now ≡ name) × ReadFailed name
 ProgramCause told ReadFailed name refusal.ProgramTooLong = IsLonger told name most_program_bytes
-ProgramCause told ReadFailed name refusal.ProgramUnbuilt = NotGatesAlone told name
 ProgramCause told ReadFailed name refusal.OutOfMemory = Unit {0}
 ProgramCause told ReadFailed name refused = (f : ProgramFault) × HasFault told name f × TellsProgramFault f refused
-
--- the program has gates alone, and this holds besides
-pub record BehindProgram (told : Option Held) (name : List ℕ) (P : Type 0) : Type 0 where
-  pub program : Program
-  pub read : ReadsProgram told name program
-  pub gates : are_gates program.body ≡ true
-  pub then : P
 
 -- ---- the sets
 

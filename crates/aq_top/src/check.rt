@@ -1,5 +1,5 @@
 //! The command `check PROG SETS`.
-ghost use Rattle.std.specs.Prelude.{◌≡◌, true, All, IfOk, IfErr, Ok, map};
+ghost use Rattle.std.specs.Prelude.{◌≡◌, ◌≤◌, true, All, IfOk, IfErr, Ok, map};
 ghost use Rattle.std.specs.Option.{option_map};
 ghost use Rattle.std.specs.String.{string_bytes};
 ghost use Rattle.aq_base.specs.Limits.{most_steps};
@@ -12,6 +12,7 @@ ghost use Rattle.aq_top.specs.Check.{
   CheckCause,
   CheckEnd,
   ClaimFaultOf,
+  GatesCause,
   ReadsTask,
   TellsClaimFault,
   check_words,
@@ -20,13 +21,14 @@ ghost use Rattle.aq_top.specs.Check.{
   verdict_status,
 };
 ghost use Rattle.aq_top.specs.Ends.{Ends, IsText};
-ghost use Rattle.aq_top.specs.Reads.{ReadFailedOf};
+ghost use Rattle.aq_top.specs.Reads.{ReadFailedOf, ReadsProgram};
 ghost use Rattle.aq_top.specs.Tasks.{claims_asked, enough_for, obligation_of, task_of};
 
 use crate::read::{load_program, load_sets};
 use crate::say::{say_refusal, status_after};
 use crate::status::Status;
 use aq_base::MOST_STEPS;
+use aq_judge::are_gates;
 use aq_obligations::{AskedClaims, ClaimFault, Kind, ask, obligation_at_end};
 use aq_prog::Program;
 use aq_report::{Refusal, Verdict, Why, print_summary, print_verdict};
@@ -85,6 +87,28 @@ fn ask_claims(alloc: Global, program: &Program, sets: &Sets) -> Result<AskedClai
     ask(alloc, program, sets, b"pre", b"post")
 }
 
+/// Reads a program that has gates alone.
+fn load_gates<'a, S: Shelf>(
+    alloc: Global,
+    name: &'a str,
+    shelf: &mut S,
+) -> Result<Program, Refusal<'a>>
+    ensures read { IfOk result (ReadsProgram (S.meaning.holds shelf.old) name.entry.now) }
+    ensures gates { IfOk result (λ p. are_gates p.body ≡ true) }
+    ensures valid { IfOk result IsValidProgram }
+    ensures cause { IfErr result
+        (GatesCause (S.meaning.holds shelf.old) (ReadFailedOf S.meaning shelf.old shelf.new) name.entry.now) }
+    ensures later { S.meaning.faults shelf.old ≤ S.meaning.faults shelf.new }
+    ensures held { S.meaning.holds shelf.new ≡ S.meaning.holds shelf.old }
+{
+    let program = load_program(alloc, name, shelf)?;
+    if are_gates(program.body.as_slice()) {
+        Ok(program)
+    } else {
+        Err(Refusal::ProgramUnbuilt)
+    }
+}
+
 /// Reads the program, then the sets behind a program that has gates alone, and looks up the claims.
 fn load<'a, S: Shelf>(
     alloc: Global,
@@ -102,7 +126,7 @@ fn load<'a, S: Shelf>(
         (files_of words.entry)) }
     ensures held { S.meaning.holds shelf.new ≡ S.meaning.holds shelf.old }
 {
-    let program = load_program(alloc, words.program, shelf)?;
+    let program = load_gates(alloc, words.program, shelf)?;
     let sets = load_sets(alloc, words.sets, shelf)?;
     match ask_claims(alloc, &program, &sets) {
         Ok(claims) => Ok(Loaded {

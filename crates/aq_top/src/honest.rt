@@ -1,7 +1,7 @@
 ghost use Rattle.std.specs.Prelude.{◌≡◌, ◌≢◌, None, Some, map};
 ghost use Rattle.std.specs.String.{string_bytes};
 ghost use Rattle.aq_world.specs.Files.{first_of};
-ghost use Rattle.aq_top.specs.Clauses.{IsAnswer, Reports, ToldIsCorrect};
+ghost use Rattle.aq_top.specs.Clauses.{IsAnswer, Reports, TellsTheRun, ToldIsCorrect};
 ghost use Rattle.aq_top.specs.Commands.{RunEnd, command_asked};
 ghost use Rattle.aq_top.specs.Ends.{Ends};
 ghost use Rattle.aq_top.specs.Reads.{ReadFailedOf};
@@ -25,6 +25,8 @@ pub fn run_honest(
         (command_asked (map string_bytes words.now)) (Some out.old.bytes) (Some out.new.bytes) result }
     ensures all_verified_implies_correct { result ≡ Status.Good
         → ToldIsCorrect (Some (first_of shelf.old.files)) (command_asked (map string_bytes words.now)) }
+    ensures replay_is_the_run { result ≡ Status.Good → TellsTheRun (Some (first_of shelf.old.files))
+        (command_asked (map string_bytes words.now)) (Some out.old.bytes) (Some out.new.bytes) }
     // The counts of faults stay 0, so that no end has a failed read or write for its cause.
     ensures other_ends { Ends ⟦<HonestSink as Sink>⟧.meaning out.old out.new
         (RunEnd (Some (first_of shelf.old.files)) (ReadFailedOf ⟦<HonestShelf as Shelf>⟧.meaning shelf.old shelf.new)

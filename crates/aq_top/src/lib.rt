@@ -5,9 +5,12 @@
 mod check;
 mod command;
 mod honest;
+mod outcomes;
 mod program;
 mod read;
+mod replay;
 mod say;
+mod state;
 mod status;
 mod top;
 

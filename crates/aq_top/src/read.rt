@@ -1,8 +1,7 @@
 //! What a command reads: a program, and sets.
-ghost use Rattle.std.specs.Prelude.{◌≡◌, ◌≤◌, true, IfOk, IfErr};
+ghost use Rattle.std.specs.Prelude.{◌≡◌, ◌≤◌, IfOk, IfErr};
 ghost use Rattle.aq_prog.specs.Programs.{IsValidProgram};
 ghost use Rattle.aq_sets.specs.Valid.{IsValidSets};
-ghost use Rattle.aq_judge.specs.Bodies.{are_gates};
 ghost use Rattle.aq_top.specs.Reads.{
   ReadFailedOf,
   ReadsProgram,
@@ -15,7 +14,6 @@ ghost use Rattle.aq_top.specs.Reads.{
 
 use crate::program::{ProgramFault, read_program};
 use aq_base::{MOST_PROGRAM_BYTES, MOST_SETS_BYTES};
-use aq_judge::are_gates;
 use aq_parse::ParseFault;
 use aq_prog::Program;
 use aq_report::Refusal;
@@ -53,14 +51,13 @@ fn refused_sets<'a>(fault: &SetFault) -> Refusal<'a>
     }
 }
 
-/// Reads a program that has gates alone.
+/// Reads a program.
 pub(crate) fn load_program<'a, S: Shelf>(
     alloc: Global,
     name: &'a str,
     shelf: &mut S,
 ) -> Result<Program, Refusal<'a>>
     ensures read { IfOk result (ReadsProgram (S.meaning.holds shelf.old) name.entry.now) }
-    ensures gates { IfOk result (λ p. are_gates p.body ≡ true) }
     ensures valid { IfOk result IsValidProgram }
     ensures cause { IfErr result
         (ProgramCause (S.meaning.holds shelf.old) (ReadFailedOf S.meaning shelf.old shelf.new) name.entry.now) }
@@ -69,13 +66,7 @@ pub(crate) fn load_program<'a, S: Shelf>(
 {
     match shelf.read(name, MOST_PROGRAM_BYTES) {
         Ok(bytes) => match read_program(alloc, bytes.as_slice()) {
-            Ok(program) => {
-                if are_gates(program.body.as_slice()) {
-                    Ok(program)
-                } else {
-                    Err(Refusal::ProgramUnbuilt)
-                }
-            }
+            Ok(program) => Ok(program),
             Err(fault) => Err(refused_program(fault)),
         },
         Err(ReadFault::Failed) => Err(Refusal::ReadFault { file: name }),

@@ -4,7 +4,7 @@ ghost use Rattle.aq_top.specs.Codes.{code_of};
 /// How a run of the program ends.
 #[derive(Clone, Copy, Debug, PartialEq, Eq)]
 pub enum Status {
-    /// Every verdict is verified.
+    /// Every verdict is verified, or a run was replayed to its end.
     Good,
     /// Some verdict is refuted.
     Refuted,

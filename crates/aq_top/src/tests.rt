@@ -360,3 +360,180 @@ fn a_write_that_fails_leaves_a_front(rt: HostRuntime) -> Result<(), Fail> {
     assert_eq!(rt; out.bytes.as_slice(), b"1 pos".as_slice());
     Ok(())
 }
+
+/// The status and the output of `replay P bell.sets` with these words behind, on these texts.
+fn replayed(
+    alloc: Global,
+    program: &[u8],
+    sets: &[u8],
+    more: &[&str],
+) -> Result<(Status, Text), AllocError> {
+    let mut shelf = HonestShelf {
+        alloc,
+        files: files_of(alloc, program, sets)?,
+    };
+    let mut out = HonestSink {
+        bytes: Text::new(alloc),
+    };
+    let mut words = words_of(alloc, &["replay", "P", "bell.sets"])?;
+    words.append(&mut words_of(alloc, more)?)?;
+    let status = run_honest(alloc, words.as_slice(), &mut shelf, &mut out);
+    Ok((status, out.bytes))
+}
+
+/// A measurement in the midst of a circuit.
+const MEASURED: &[u8] = b"qubit[2] q; bit c; h q[0]; c = measure q[0]; cx q[0], q[1];";
+
+const ZERO: &[u8] = b"set zero = [|00>];";
+
+#[test]
+fn replays(rt: HostRuntime) -> Result<(), Fail> {
+    let alloc = rt.alloc();
+    let rows: [(&[u8], &[u8], &str, &[u8]); 8] = [
+        (MEASURED, ZERO, "1", b"bits 1\nend |11> (1,0,0,0)/1\n"),
+        (MEASURED, ZERO, "0", b"bits 0\nend |00> (1,0,0,0)/1\n"),
+        // The set by its name, and not the first one.
+        (
+            b"qubit q; h q;",
+            b"set one = [|1>]; set zero = [|0>];",
+            "",
+            b"bits -\nend |0> (1,0,0,0)/1\nend |1> (1,0,0,0)/1\n",
+        ),
+        // A reset takes an outcome.
+        (
+            b"qubit q; bit c; reset q;",
+            b"set zero = [i|1>];",
+            "1",
+            b"bits 0\nend |0> (0,0,1,0)/0\n",
+        ),
+        // No run begins with a bit 1.
+        (
+            b"qubit q; bit c; if (c == 1) x q;",
+            b"set zero = [|0>];",
+            "",
+            b"bits 0\nend |0> (1,0,0,0)/0\n",
+        ),
+        // An assertion is passed.
+        (
+            b"qubit q;\n@assert one\nx q;",
+            b"set zero = [|0>];",
+            "",
+            b"bits -\nend |1> (1,0,0,0)/0\n",
+        ),
+        (
+            b"qubit[2] q; bit[2] c; c = measure q; if (c[0] == 1) x q[1];",
+            b"set zero = [|1>] * [|0>]; claim pre = zero;",
+            "10",
+            b"bits 10\nend |11> (1,0,0,0)/0\n",
+        ),
+        // A zero vector has no line, and no outcome of it can happen.
+        (b"qubit q; x q;", b"set zero = [0|0>];", "", b"bits -\n"),
+    ];
+    for (row, (program, sets, outcomes, wanted)) in rows.iter().enumerate() {
+        let more = ["--state", "zero", "--outcomes", *outcomes];
+        let (status, bytes) = replayed(alloc, program, sets, more.as_slice())?;
+        assert_eq!(rt; bytes.as_slice(), *wanted, "in row {row}");
+        assert_eq!(rt; status, Status::Good, "in row {row}");
+    }
+    Ok(())
+}
+
+#[test]
+fn refusals_of_replays(rt: HostRuntime) -> Result<(), Fail> {
+    let alloc = rt.alloc();
+    let looped: &[u8] = b"qubit q; bit c;\n@invariant one\nwhile (c == 1) { x q; }";
+    let large: &[u8] = b"set zero = [170141183460469231731687303715884105727|0>] * [2|0>];";
+    let rows: [(&[u8], &[u8], &[&str], &[u8]); 13] = [
+        (MEASURED, ZERO, &[], b"refused: replay: ShortOutcomes\n"),
+        (
+            MEASURED,
+            ZERO,
+            &["--outcomes", "11"],
+            b"refused: replay: LongOutcomes\n",
+        ),
+        (
+            b"qubit q; bit c; c = measure q;",
+            b"set zero = [|0>];",
+            &["--outcomes", "1"],
+            b"refused: replay: Impossible\n",
+        ),
+        (
+            looped,
+            b"set zero = [|0>];",
+            &[],
+            b"refused: replay: NotLoopFree\n",
+        ),
+        (
+            looped,
+            b"set zero = [|0>];",
+            &["--outcomes", "012"],
+            b"refused: replay: BadOutcomes\n",
+        ),
+        (
+            b"qubit q; h q;",
+            b"set zero = [170141183460469231731687303715884105727|0> + |1>];",
+            &[],
+            b"refused: replay: Wide\n",
+        ),
+        (
+            b"qubit[2] q;",
+            large,
+            &["--outcomes", "-"],
+            b"refused: set zero: Wide\n",
+        ),
+        (
+            b"qubit[2] q;",
+            b"set zero = all 2;",
+            &["--outcomes", "-"],
+            b"refused: set zero: NotOne\n",
+        ),
+        (
+            b"qubit q;",
+            b"set zero = all 2;",
+            &[],
+            b"refused: set zero: QubitsDiffer\n",
+        ),
+        (
+            b"qubit q;",
+            b"claim zero = [|0>];",
+            &["--outcomes", "2"],
+            b"refused: set zero: UnknownSet\n",
+        ),
+        (b"qubit q;", b"set", &[], b"refused: sets 1:4: Unexpected\n"),
+        (b"qubit", b"set", &[], b"refused: program 1:6: Unexpected\n"),
+        (
+            b"qubit q; rx(pi/4) q;",
+            ZERO,
+            &["--outcomes", "2"],
+            b"refused: program 1:13: AngleForm\n",
+        ),
+    ];
+    for (row, (program, sets, more, wanted)) in rows.iter().enumerate() {
+        let mut words = Vec::from_slice(alloc, ["--state", "zero"].as_slice())?;
+        for word in more.iter() {
+            words.push(*word)?;
+        }
+        let (status, bytes) = replayed(alloc, program, sets, words.as_slice())?;
+        assert_eq!(rt; bytes.as_slice(), *wanted, "in row {row}");
+        assert_eq!(rt; status, Status::Refused, "in row {row}");
+    }
+    Ok(())
+}
+
+#[test]
+fn words_of_no_replay(rt: HostRuntime) -> Result<(), Fail> {
+    let alloc = rt.alloc();
+    let rows: [&[&str]; 6] = [
+        &[],
+        &["--state"],
+        &["--stat", "zero"],
+        &["--state", "zero", "--outcomes"],
+        &["--outcomes", "1", "--state", "zero"],
+        &["--state", "zero", "--outcomes", "1", "1"],
+    ];
+    for (row, more) in rows.iter().enumerate() {
+        let (status, _) = replayed(alloc, MEASURED, ZERO, more)?;
+        assert_eq!(rt; status, Status::Usage, "in row {row}");
+    }
+    Ok(())
+}

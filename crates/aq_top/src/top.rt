@@ -1,13 +1,14 @@
 ghost use Rattle.std.specs.Prelude.{◌≡◌, map, None, Some};
 ghost use Rattle.std.specs.String.{string_bytes};
 ghost use Rattle.aq_world.specs.Causes.{Rose};
-ghost use Rattle.aq_top.specs.Clauses.{IsAnswer, Reports, ToldIsCorrect, ReadsFailed};
+ghost use Rattle.aq_top.specs.Clauses.{IsAnswer, Reports, ToldIsCorrect, TellsTheRun, ReadsFailed};
 ghost use Rattle.aq_top.specs.Commands.{RunEnd, command_asked, command_of};
 ghost use Rattle.aq_top.specs.Ends.{Ends};
 ghost use Rattle.aq_top.specs.Reads.{ReadFailedOf};
 
 use crate::check::check;
 use crate::command::{Command, command_asked};
+use crate::replay::replay;
 use crate::say::say_usage;
 use crate::status::Status;
 use aq_world::{Shelf, Sink};
@@ -26,6 +27,7 @@ fn obey<S: Shelf, K: Sink>(
 {
     match command {
         Command::Check(words) => check(alloc, words, shelf, out),
+        Command::Replay(words) => replay(alloc, words, shelf, out),
     }
 }
 
@@ -43,17 +45,22 @@ fn answer<S: Shelf, K: Sink>(alloc: Global, words: &[String], shelf: &mut S, out
 
 /// Does what the words after the program's name say, over the shelf's files, and writes the answer to the sink.
 ///
-/// The words are `check PROG SETS`; other words are answered by the usage text. The status says how it ended: see
-/// `Status`. `Memory` may come at any input, and where memory is wanting while an obligation is judged, that obligation
+/// The words are `check PROG SETS`, or `replay PROG SETS --state NAME` with or without `--outcomes TEXT` behind it; other
+/// words are answered by the usage text. The status says how it ended: see `Status`. `Memory` may come at any input, and where memory is wanting while an obligation is judged, that obligation
 /// is given up.
 pub fn run<S: Shelf, K: Sink>(alloc: Global, words: &[String], shelf: &mut S, out: &mut K) -> Status
-    // With Good, Refuted and GaveUp, a whole report was written, and its verdicts are justified.
+    // With Good, Refuted and GaveUp, a whole report was written, and its verdicts are justified; or a replay's end, which
+    // goes with Good.
     ensures report_is_justified { IsAnswer result → Reports (S.meaning.holds shelf.old)
         (command_asked (map string_bytes words.now)) (K.meaning.told out.old) (K.meaning.told out.new) result }
 
     // With Good, the program that the files say is correct.
     ensures all_verified_implies_correct { result ≡ Status.Good
         → ToldIsCorrect (S.meaning.holds shelf.old) (command_asked (map string_bytes words.now)) }
+
+    // With Good, a replay wrote the end of the run.
+    ensures replay_is_the_run { result ≡ Status.Good → TellsTheRun (S.meaning.holds shelf.old)
+        (command_asked (map string_bytes words.now)) (K.meaning.told out.old) (K.meaning.told out.new) }
 
     // Whatever the status, what was written is a whole output that goes with it, or a front of one after a failed
     // write or where the sink wanted memory.

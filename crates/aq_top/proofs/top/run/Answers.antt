@@ -1,4 +1,4 @@
-use Rattle.aq_top.proofs.EndsLemmas.{status_says, at_status, answer_says, report_is_correct}
+use Rattle.aq_top.proofs.EndsLemmas.{status_says, at_status, answer_says, replay_tells, report_is_correct}
 use Rattle.aq_top.proofs.top.run.Goals as goal
 
 pub returns-clause-report_is_justified : goal.returns-clause-report_is_justified
@@ -10,6 +10,11 @@ pub returns-clause-all_verified_implies_correct : goal.returns-clause-all_verifi
 returns-clause-all_verified_implies_correct g c good =
     let says = status_says _ _ _ _ _ _ _ c.answer.ensures.ends in
     report_is_correct _ _ _ (at_status _ _ _ _ _ _ _ good says.2)
+
+pub returns-clause-replay_is_the_run : goal.returns-clause-replay_is_the_run
+returns-clause-replay_is_the_run g c good =
+    let says = status_says _ _ _ _ _ _ _ c.answer.ensures.ends in
+    replay_tells _ _ _ _ says.0 says.1 (at_status _ _ _ _ _ _ _ good says.2)
 
 pub returns-clause-usage_has_its_cause : goal.returns-clause-usage_has_its_cause
 returns-clause-usage_has_its_cause g c usage =
