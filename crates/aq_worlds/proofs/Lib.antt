@@ -1,2 +1,6 @@
 mod UnfitLaws
 mod PlayLaws
+mod ZeroLaws
+pub mod SpreadLaws
+mod SeveralLaws
+mod CallLaws

@@ -5,7 +5,8 @@ use Rattle.aq_ring.specs.Fractions.{Amplitude}
 use Rattle.aq_prog.specs.Gates.{apply_gate, project}
 use Rattle.aq_prog.specs.declared.gate.Gate.{Gate}
 use Rattle.aq_plain.specs.Vectors.{StateVector}
-use Rattle.aq_worlds.specs.Playing.{amps_of, AreOn, with_gate, with_half}
+use Rattle.aq_prog.specs.Runs.{flipped}
+use Rattle.aq_worlds.specs.Playing.{amps_of, AreOn, with_gate, with_half, with_reset}
 
 pub gate_on_all : (n : ℕ) (gate : Gate) (vs : List StateVector) → AreOn n vs → amps_of (map (with_gate gate) vs) ≡ map (apply_gate n gate) (amps_of vs)
 gate_on_all n gate [] a = refl
@@ -18,3 +19,9 @@ half_of_all n qubit b [] a = refl
 half_of_all n qubit b (v ∷ vs) a =
     ap₂ (λ (x : List Amplitude) (xs : List (List Amplitude)). x ∷ xs) (ap (λ q. project q qubit b v.amps) (All-head (λ (v : StateVector). v.qubits ≡ n) v vs a))
     (half_of_all n qubit b vs (All-tail (λ (v : StateVector). v.qubits ≡ n) v vs a))
+
+pub reset_of_all : (n qubit : ℕ) (b : Bool) (vs : List StateVector) → AreOn n vs → amps_of (map (with_reset qubit b) vs) ≡ map (flipped n qubit b) (map (project n qubit b) (amps_of vs))
+reset_of_all n qubit b [] a = refl
+reset_of_all n qubit b (v ∷ vs) a =
+    ap₂ (λ (x : List Amplitude) (xs : List (List Amplitude)). x ∷ xs) (ap (λ q. flipped q qubit b (project q qubit b v.amps)) (All-head (λ (v : StateVector). v.qubits ≡ n) v vs a))
+    (reset_of_all n qubit b vs (All-tail (λ (v : StateVector). v.qubits ≡ n) v vs a))

@@ -1,12 +1,13 @@
 -- A gate that was refused doesn't fit.
-use Rattle.std.proofs.Common.{◌≡◌, ℕ, zero, suc, ◌<◌, ◌≤◌, List, subst, arith, ◌⊎◌, inl, inr}
+use Rattle.std.proofs.Common.{◌≡◌, ℕ, zero, suc, ◌<◌, ◌≤◌, List, [], sym, subst, arith, ◌⊎◌, inl, inr}
 use Rattle.std.proofs.lemmas.Bool.{cases_lt}
 use Rattle.aq_ring.specs.Fractions.{Amplitude}
 use Rattle.aq_ring.specs.Amplitudes.{FitsQuotient}
-use Rattle.aq_prog.specs.Gates.{divided, FitsDivided, FitsTerm, FitsGate, FitsGateAt}
+use Rattle.aq_prog.specs.Gates.{divided, flip_gate, FitsDivided, FitsTerm, FitsGate, FitsGateAt}
 use Rattle.aq_prog.specs.declared.gate.Entry.{Entry}
 use Rattle.aq_prog.specs.declared.gate.Entry.TheVariants as entry
 use Rattle.aq_prog.specs.declared.gate.Gate.{Gate}
+use Rattle.aq_prog.proofs.FitsLaws.{always_fits}
 use Rattle.aq_plain.specs.Wide.{IsWideTerm, IsWideRow, IsWideAt, IsFirstWide, row_entry, paired}
 
 last_or_before : (times before : ℕ) (p : Amplitude) → before < suc times → FitsQuotient (divided times p) → (before < times → FitsQuotient (divided before p)) → FitsQuotient (divided before p)
@@ -35,3 +36,9 @@ unfit_row n gate v x l r w f = by_row w.row
 -- a gate that was refused doesn't fit
 pub unfit_gate : (n : ℕ) (gate : Gate) (v : List Amplitude) (l r : Amplitude) → IsFirstWide n gate v l r → FitsGate n gate v → ⊥
 unfit_gate n gate v l r w f = unfit_row n gate v w.index l r w.here (f.at w.index w.within)
+
+-- the flip was not refused
+pub unfit_flip : (n qubit : ℕ) (g : Gate) (v : List Amplitude) (l r : Amplitude) → g.controls ≡ [] → g.target ≡ qubit → g.matrix.rows ≡ (flip_gate qubit).matrix.rows → IsFirstWide n g v l r → ⊥
+unfit_flip n qubit g v l r none at rows wide =
+    let is : g ≡ flip_gate qubit = λ i. record { controls = none i; target = at i; matrix = record { rows = rows i } } in
+    unfit_gate n g v l r wide (subst (λ (h : Gate). FitsGate n h v) (sym is) (always_fits.flip n qubit v))

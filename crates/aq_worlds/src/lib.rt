@@ -3,9 +3,11 @@
 //! `specs/Playing` says which world of the definitions one is.
 #![tactic(auto)]
 
+mod several;
 mod stop;
 mod vectors;
 mod world;
 
+pub use several::{alive, assume, measure, play_gate, reset, split_world};
 pub use stop::Stop;
 pub use world::PlainWorld;

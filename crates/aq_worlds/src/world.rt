@@ -1,14 +1,24 @@
 //! A world, and its steps.
-ghost use Rattle.std.specs.Prelude.{◌≡◌, ◌<◌, ℕ, All, IfOk, IfErr, IfSome, length, map};
+ghost use Rattle.std.specs.Prelude.{◌≡◌, ◌<◌, ℕ, All, IfOk, IfErr, IfSome, length, map, slice_get};
 ghost use Rattle.aq_prog.specs.Gates.{apply_gate, IsValidGate};
 ghost use Rattle.aq_obligations.specs.Claims.{ClaimCase};
-ghost use Rattle.aq_obligations.specs.Worlds.{decided, measured_world, stored, with_vectors};
-ghost use Rattle.aq_worlds.specs.Playing.{AreOn, HasUnfit, StopsFor, world_of, with_gate, with_half};
+ghost use Rattle.aq_obligations.specs.Worlds.{decided, is_known, measured_world, reset_world, stored, with_vectors};
+ghost use Rattle.aq_worlds.specs.Playing.{
+  AreOn,
+  HasUnfit,
+  StopsFor,
+  is_nothing,
+  is_unknown,
+  world_of,
+  with_gate,
+  with_half,
+  with_reset,
+};
 
 use crate::stop::Stop;
-use crate::vectors::{copy_all, keep_all, play_all};
+use crate::vectors::{are_zero, clear_all, copy_all, keep_all, play_all};
 use aq_plain::Vector;
-use aq_prog::Gate;
+use aq_prog::{Gate, Guard};
 use sqlite_items::Items;
 use std::alloc::{AllocError, Global};
 
@@ -26,6 +36,8 @@ impl PlainWorld {
     /// The same world once more. Fails only for want of memory.
     pub fn copy(&self, alloc: Global) -> Result<PlainWorld, AllocError>
         ensures same { IfOk result (λ w. (c : ClaimCase) → world_of c w ≡ world_of c self.now) }
+        ensures start { IfOk result (λ w. w.start ≡ self.now.start) }
+        ensures bits { IfOk result (λ w. w.bits ≡ self.now.bits) }
         ensures vectors { IfOk result (λ w. w.vectors.items ≡ self.now.vectors.items) }
     {
         let start = Items::from_slice(alloc, self.start.as_slice())?;
@@ -102,6 +114,58 @@ impl PlainWorld {
             outcomes,
             vectors,
         })
+    }
+
+    /// Takes an outcome of a reset of the qubit. Fails only for want of memory.
+    pub fn reset(self, alloc: Global, qubit: u32, outcome: bool) -> Result<PlainWorld, AllocError>
+        requires { All (λ v. qubit < v.qubits) self.vectors.items }
+        ensures world { IfOk result (λ w. (n : ℕ) (c : ClaimCase) → AreOn n self.vectors.items
+            → world_of c w ≡ reset_world n qubit outcome (world_of c self)) }
+        ensures vectors { IfOk result (λ w. w.vectors.items ≡ map (with_reset qubit outcome) self.vectors.items) }
+    {
+        let PlainWorld {
+            start,
+            bits,
+            outcomes: mut taken,
+            vectors,
+        } = self;
+        taken.push(outcome)?;
+        let vectors = clear_all(alloc, qubit, outcome, vectors)?;
+        Ok(PlainWorld {
+            start,
+            bits,
+            outcomes: taken,
+            vectors,
+        })
+    }
+
+    /// Whether every vector is zero.
+    pub fn is_zero(&self) -> bool
+        ensures { result ≡ is_nothing self.now }
+    {
+        are_zero(self.vectors.as_slice())
+    }
+
+    /// Whether the guard's bit is known to have its value.
+    pub fn holds(&self, guard: &Guard) -> bool
+        ensures { result ≡ is_known guard.now (slice_get self.now.bits guard.now.bit) }
+    {
+        match self.bits.as_slice().get(guard.bit as usize) {
+            Some(Some(bit)) => *bit == guard.value,
+            Some(None) => false,
+            None => false,
+        }
+    }
+
+    /// Whether the value of the bit isn't known.
+    pub fn is_open(&self, bit: u32) -> bool
+        ensures { result ≡ is_unknown (slice_get self.now.bits bit) }
+    {
+        match self.bits.as_slice().get(bit as usize) {
+            Some(Some(_)) => false,
+            Some(None) => true,
+            None => false,
+        }
     }
 }
 
