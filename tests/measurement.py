@@ -381,4 +381,30 @@ for words in [
 ]:
     CASES.append(("words: " + " ".join(words), words, {"P": "qubit q;", "S": "set a = [|0>];"}, USAGE, 4))
 
-EXAMPLES = []
+# ---- examples/: the files as they lie there
+
+# the pair of kept and message, and the sign that isn't corrected; each outcome halves the two amplitudes
+PAIR = [("0000", ONE), ("1100", ONE)]
+UNTURNED = [("0100", HALF), ("1101", "(-1,0,0,0)/2")]
+# the third qubit was flipped, and then the first too
+THIRD = [("000100", ONE), ("111000", ONE)]
+FIRST_TOO = [("010101", ONE), ("101001", ONE)]
+# the second qubit was flipped: 1 for the first parity, and 0 for the second, which is 1 and began with 1; then the reset
+SECOND = [("0100", ONE), ("1010", W)]
+
+EXAMPLES = [
+    ("teleportation", VERIFIED, 0),
+    ("teleportation_unturned", refutation("00", PAIR, "10", "10", UNTURNED), 1),
+    ("superdense", VERIFIED, 0),
+    ("entanglement_swapping", VERIFIED, 0),
+    ("bit_flip_code", VERIFIED, 0),
+    ("bit_flip_code_exchanged", refutation("00", THIRD, "01", "01", FIRST_TOO), 1),
+    ("reused_work", VERIFIED, 0),
+    ("reused_work_stale", refutation("00", SECOND, "100", "10", SECOND), 1),
+]
+
+# an example, the set from which it is played, the outcomes, and what is printed
+EXAMPLE_REPLAYS = [
+    ("teleportation", "start", "10", "bits 10\n" + lines("end", [("0100", HALF), ("1101", HALF)])),
+    ("teleportation_unturned", "start", "10", "bits 10\n" + lines("end", UNTURNED)),
+]
