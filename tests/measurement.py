@@ -182,6 +182,10 @@ refuted("outcomes in order", INSIDE, "[|00> + |01> + |10> + |11>]", "[|00> - |01
 refuted("a shorter list of outcomes", INSIDE, "[|00> + |01> + |10> + |11>]", "all 2 when c[0] == 1", "00", PLUSES, "0", "00", [("00", ONE), ("01", MINUS)])
 verified("a branch that never happens", "qubit q; bit c; c = measure q; if (c) { measure q; h q; }", "[|0>]", "[|0>]")
 
+SPLIT = "qubit[2] q; bit c; h q[0]; c = measure q[0]; if (c) { x q[0]; } else { x q[1]; }"
+verified("a branch and its else", SPLIT, "[|00>]", "[|01>] when c == 0, [|00>] when c == 1")
+refuted("a branch and its else, exchanged", SPLIT, "[|00>]", "[|01>] when c == 1, [|00>] when c == 0", "0", [("00", ONE)], "0", "0", [("01", ROOT)])
+
 TELEPORTATION = """OPENQASM 3.0;
 include "stdgates.inc";
 bit[2] c;
