@@ -125,6 +125,7 @@ refuted(
     "-",
     [("01", ONE)],
 )
+refuted("0 comes before 1 in a reset", "qubit[2] q; reset q[0];", "[|00> + |11>]", "[|10>]", "-", [("00", ONE), ("11", ONE)], "0", "-", [("00", ONE)])
 refuted(
     "a reset among measurements",
     "qubit[3] q; bit[2] c; c[0] = measure q[0]; reset q[1]; c[1] = measure q[2];",
