@@ -1,7 +1,7 @@
 -- What tells whether two lists of amplitudes are proportional, by products of two amplitudes alone.
 --
 -- At the pivot, the first position where not both lists are zero, let the pair be (a, b). The lists are proportional
--- exactly where at each later pair (x, y) the products x*b and a*y are equal and x and y are zero together.
+-- exactly where at each pair (x, y) from the pivot on the products x*b and a*y are equal and x and y are zero together.
 use Rattle.std.specs.Prelude.{◌≡◌, ◌≢◌, ◌↔◌, ◌⊎◌, ℕ, ◌<◌, ◌≤◌, List, length, slice_index_or, flat_map}
 use Rattle.aq_ring.specs.Fractions.{Amplitude}
 use Rattle.aq_ring.specs.Amplitudes.{amplitude_zero, product, FitsAmplitudeProduct}

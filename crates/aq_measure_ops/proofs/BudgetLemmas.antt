@@ -74,7 +74,8 @@ budget_bound : (shape : List ℕ) → IsSome shape → budget shape + 2 * many s
 unfolding budget many
 budget_bound [] some = lit≤ tt
 budget_bound (n ∷ shape) some =
-    rw (power (length shape)) (node_budget n (many shape) (2 ^ length shape) (budget shape) (some 0 (omega arith)) (many_some shape (tail_some n shape some)) (budget_bound shape (tail_some n shape some)))
+    rw (power (length shape)) (node_budget n (many shape) (2 ^ length shape) (budget shape) (some 0 (omega arith)) (many_some shape (tail_some n shape some)) (budget_bound shape
+    (tail_some n shape some)))
 
 total_bound : (shape : List ℕ) → IsSome shape → 1 + total shape ≤ many shape * 2 ^ length shape
 unfolding total many
@@ -90,7 +91,8 @@ sum_up w m p q a b is e f g = let all : 2 * w * q ≡ 2 * m * (2 * p) = ap₂ (�
 pub all_steps : (shape : List ℕ) → IsSome shape → 1 + total shape + budget shape ≤ 2 * words shape * 2 ^ (length shape + 1)
 all_steps shape some =
     let one : length shape + 1 ≡ suc (length shape) = omega arith in
-    sum_up (words shape) (many shape) (2 ^ length shape) (2 ^ (length shape + 1)) (total shape) (budget shape) (words-many shape) (ap (λ k. 2 ^ k) one ∙ power (length shape)) (total_bound shape some) (omega (arith, budget_bound shape some))
+    sum_up (words shape) (many shape) (2 ^ length shape) (2 ^ (length shape + 1)) (total shape) (budget shape) (words-many shape) (ap (λ k. 2 ^ k) one
+    ∙ power (length shape)) (total_bound shape some) (omega (arith, budget_bound shape some))
 
 -- the same for a copy of the shape, with a tree of zeros of its lower levels
 pub copy_steps : (copy shape : List ℕ) → copy ≡ shape → IsSome copy → (d : ℕ) → 1 + total (drop d copy) + budget copy ≤ 2 * words shape * 2 ^ (length shape + 1)

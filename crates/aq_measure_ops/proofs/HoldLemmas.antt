@@ -11,7 +11,8 @@ use Rattle.aq_store.proofs.OwedLemmas.{AreLevels-Extends, lower, lower-left, low
 
 module _ {L : Type 0} where
   -- a place's levels, without the first, hold its pairs
-  pub pairs_held : (table : List (Node L)) (above below : List ℕ) (m id : ℕ) (levels : List (List ℕ)) → above ≡ m ∷ below → HoldPlace table above id levels → HoldPairs table below id (rest_of levels)
+  pub pairs_held : (table : List (Node L)) (above below : List ℕ) (m id : ℕ) (levels : List (List ℕ)) → above ≡ m ∷ below → HoldPlace table above id levels
+      → HoldPairs table below id (rest_of levels)
   pairs_held table above below m id levels split h =
       let all : AreLevels table (m ∷ below) levels = subst (λ u. AreLevels table u levels) split h.closed in
       record {
@@ -26,7 +27,8 @@ module _ {L : Type 0} where
   HoldPair-Extends old new x shape p levels h = record { closed = AreLevels-Extends old new x shape levels h.closed; left = h.left; right = h.right }
 
   -- the pair of a run
-  pub run_held : (start old : List (Node L)) → Extends start old → (above below : List ℕ) (id index count : ℕ) (p : ℕ × ℕ) (levels : List (List ℕ)) → HasShape start above id → HoldPairs start below id levels
+  pub run_held : (start old : List (Node L)) → Extends start old → (above below : List ℕ) (id index count : ℕ) (p : ℕ × ℕ) (levels : List (List ℕ)) → HasShape start above id
+      → HoldPairs start below id levels
       → slice_get (runs_at old id) index ≡ Some (run_of p count) → 0 < count → HoldPair old below p levels
   run_held start old x above below id index count p levels s h run some =
       let here : slice_get (runs_at start id) index ≡ Some (run_of p count) = ap (λ ps. slice_get (compress ps) index) (sym (pairs_at-kept start old x above id s)) ∙ run in

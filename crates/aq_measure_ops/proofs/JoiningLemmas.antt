@@ -1,5 +1,6 @@
 -- The root of a union.
-use Rattle.std.proofs.Common.{◌≡◌, ℕ, inl, inr, zero, suc, ◌+◌, ◌-◌, ◌*◌, ◌^◌, ◌<◌, ◌≤◌, ◌⊎◌, Bool, true, false, true≢false, List, [], ◌∷◌, ◌++◌, map, length, take, drop, get_or, slice_get, sum_by, Option, None, Some, refl, sym, ap, ap₂, subst, ◌∙◌, arith}
+use Rattle.std.proofs.Common.{◌≡◌, ℕ, inl, inr, zero, suc, ◌+◌, ◌-◌, ◌*◌, ◌^◌, ◌<◌, ◌≤◌, ◌⊎◌, Bool, true, false, true≢false, List, [], ◌∷◌, ◌++◌, map}
+use Rattle.std.proofs.Common.{length, take, drop, get_or, slice_get, sum_by, Option, None, Some, refl, sym, ap, ap₂, subst, ◌∙◌, arith}
 use Rattle.std.proofs.Math.Seq.{take-append_seam}
 use Rattle.std.proofs.Math.Nat.{mul-le-mul_left}
 use Rattle.std.proofs.lemmas.List.{length-append, take-append-le}
@@ -46,7 +47,8 @@ module _ {L : Type 0} where
     each = λ k part at. (let z = at in cc);
   }
 
-  both_shaped : (table : List (Node L)) (below : List ℕ) (ps qs : List (ℕ × ℕ)) → EachPair (HasShape table below) ps → EachPair (HasShape table below) qs → EachPair (HasShape table below) (ps ++ qs)
+  both_shaped : (table : List (Node L)) (below : List ℕ) (ps qs : List (ℕ × ℕ)) → EachPair (HasShape table below) ps → EachPair (HasShape table below) qs
+      → EachPair (HasShape table below) (ps ++ qs)
   both_shaped table below ps qs a b = record {
     left = λ c p at. elim (slice_get-append_cases ps qs c p at) [ inl h ↦ a.left c p h | inr h ↦ b.left (c - length ps) p h.1 ];
     right = λ c p at. elim (slice_get-append_cases ps qs c p at) [ inl h ↦ a.right c p h | inr h ↦ b.right (c - length ps) p h.1 ];
@@ -54,11 +56,16 @@ module _ {L : Type 0} where
 
   -- one part more
   pub join_step : (start old new : List (Node L)) → Extends start old → Extends old new → (below : List ℕ) (done : List Lsta) (part : Lsta) (pairs all : List (ℕ × ℕ)) → FitsStore start part
-      → IsJoined start old below done pairs → Appends (Padded old part.shape.items (first_choices part ∷ below) part.root) new below (first_choices part) pairs all → IsJoined start new below (done ++ part ∷ []) all
+      → IsJoined start old below done pairs → Appends (Padded old part.shape.items (first_choices part ∷ below) part.root) new below (first_choices part) pairs all
+      → IsJoined start new below (done ++ part ∷ []) all
   join_step start old new x y below done part pairs all s j a = record {
     long = ap length a.is ∙ length-append pairs a.added ∙ ap₂ (λ m n. m + n) j.long a.long ∙ sym (sum_by_push first_choices done part);
     shaped = subst (EachPair (HasShape new below)) (sym a.is)
-        (both_shaped new below pairs a.added (EachPair-map _ _ pairs (HasShape-Extends old new y below) j.shaped) (record { left = λ c q at. (a.mean.each c q at).left; right = λ c q at. (a.mean.each c q at).right }));
+        (both_shaped new below pairs a.added (EachPair-map _ _ pairs (HasShape-Extends old new y below) j.shaped) (record {
+          left = λ c q at.
+              (a.mean.each c q at).left;
+          right = λ c q at. (a.mean.each c q at).right;
+        }));
     each = λ k other at c q lt here. elim (slice_get-append_cases done (part ∷ []) k other at) [
       | inl h ↦ earlier k other h c q lt here
       | inr h ↦ latest k other h.0 h.1 c q lt here
@@ -76,9 +83,11 @@ module _ {L : Type 0} where
           let front = front_sum done k other h in
           let place : choices_before done k + c < length pairs = omega (arith, front, j.long) in
           MeansPair-Extends (under (Padded start other.shape.items (first_choices other ∷ below) other.root) c) old new y below q
-          (j.each k other h c q lt (sym (slice_get-append_left pairs a.added (choices_before done k + c) place) ∙ in_all (choices_before done k + c) q (ap (λ m. slice_get all (m + c)) (sym same) ∙ here)))
+          (j.each k other h c q lt (sym (slice_get-append_left pairs a.added (choices_before done k + c) place)
+          ∙ in_all (choices_before done k + c) q (ap (λ m. slice_get all (m + c)) (sym same) ∙ here)))
 
-      latest : (k : ℕ) (other : Lsta) → length done ≤ k → slice_get (part ∷ []) (k - length done) ≡ Some other → (c : ℕ) (q : ℕ × ℕ) → c < first_choices other → slice_get all (choices_before (done ++ part ∷ []) k + c) ≡ Some q
+      latest : (k : ℕ) (other : Lsta) → length done ≤ k → slice_get (part ∷ []) (k - length done) ≡ Some other → (c : ℕ) (q : ℕ × ℕ) → c < first_choices other
+          → slice_get all (choices_before (done ++ part ∷ []) k + c) ≡ Some q
           → MeansPair (under (Padded start other.shape.items (first_choices other ∷ below) other.root) c) new below q
       latest k other le h c q lt here =
           let within : k - length done < 1 = slice_get_within (part ∷ []) (k - length done) other h in
@@ -88,18 +97,21 @@ module _ {L : Type 0} where
           let place : choices_before (done ++ part ∷ []) k + c ≡ length pairs + c = ap (λ m. m + c) (ap (sum_by first_choices) front ∙ sym j.long) in
           let found : slice_get a.added c ≡ Some q = sym (slice_get-append_right pairs a.added (length pairs + c) c refl) ∙ in_all (length pairs + c) q (ap (slice_get all) (sym place) ∙ here) in
           subst (λ (p : Lsta). MeansPair (under (Padded start p.shape.items (first_choices p ∷ below) p.root) c) new below q) is
-          (MeansPair-same (under (Padded old part.shape.items (first_choices part ∷ below) part.root) c) (under (Padded start part.shape.items (first_choices part ∷ below) part.root) c) new below q
+          (MeansPair-same (under (Padded old part.shape.items (first_choices part ∷ below) part.root) c) (under (Padded start part.shape.items
+          (first_choices part ∷ below) part.root) c) new below q
           (λ word v. padded-Extends start old x part.shape.items (first_choices part ∷ below) part.root s (c ∷ word) v) (a.mean.each c q found))
         where
           first_is : (i : ℕ) (other : Lsta) → i < 1 → slice_get (part ∷ []) i ≡ Some other → part ≡ other
           first_is zero other lt e = cc
           first_is (suc i) other lt e = absurd (omega arith)
 
-  pub joined_heights : (start table : List (Node L)) (below : List ℕ) (parts : List Lsta) (pairs : List (ℕ × ℕ)) → IsJoined start table below parts pairs → (h : ℕ) × EachPair (HasHeight table h) pairs
+  pub joined_heights : (start table : List (Node L)) (below : List ℕ) (parts : List Lsta) (pairs : List (ℕ × ℕ)) → IsJoined start table below parts pairs
+      → (h : ℕ) × EachPair (HasHeight table h) pairs
   joined_heights start table below parts pairs j = (length below, EachPair-map _ _ pairs (shape_height table below) j.shaped)
 
   -- the root
-  pub joined_root : (start last new : List (Node L)) → Extends last new → (shape : List ℕ) (parts : List Lsta) (pairs : List (ℕ × ℕ)) (root : ℕ) → 0 < length shape → 0 < length pairs → first_number shape ≡ sum_by first_choices parts
+  pub joined_root : (start last new : List (Node L)) → Extends last new → (shape : List ℕ) (parts : List Lsta) (pairs : List (ℕ × ℕ)) (root : ℕ) → 0 < length shape
+      → 0 < length pairs → first_number shape ≡ sum_by first_choices parts
       → IsJoined start last (lower shape) parts pairs → slice_get new root ≡ Some (Inner pairs) → HasShape new shape root
   unfolding HasShape
   joined_root start last new x shape parts pairs root levels some number j made =
@@ -107,7 +119,8 @@ module _ {L : Type 0} where
       (pairs, record { here = made; some = some }, j.long ∙ sym number, EachPair-map _ _ pairs (HasShape-Extends last new x (lower shape)) j.shaped)
 
   -- each part is in the union
-  pub joined_part : (start last new : List (Node L)) → Extends last new → (parts : List Lsta) (pairs : List (ℕ × ℕ)) (made : Lsta) → IsJoined start last (lower made.shape.items) parts pairs → slice_get new made.root ≡ Some (Inner pairs)
+  pub joined_part : (start last new : List (Node L)) → Extends last new → (parts : List Lsta) (pairs : List (ℕ × ℕ)) (made : Lsta)
+      → IsJoined start last (lower made.shape.items) parts pairs → slice_get new made.root ≡ Some (Inner pairs)
       → (k : ℕ) (part : Lsta) → slice_get parts k ≡ Some part → HasPart start new part (choices_before parts k) made
   joined_part start last new x parts pairs made j here k part at = record {
     words = λ choice c word is lt w.
@@ -115,7 +128,8 @@ module _ {L : Type 0} where
         let front = front_sum parts k part at in
         let within : choice < length pairs = omega (arith, front, j.long) in
         let q = slice_get-some pairs choice within in
-        let m = MeansPair-Extends (under (Padded start part.shape.items (first_choices part ∷ below) part.root) c) last new x below q.0 (j.each k part at c q.0 lt (ap (slice_get pairs) (sym is) ∙ q.1)) in
+        let m = MeansPair-Extends (under (Padded start part.shape.items (first_choices part ∷ below) part.root) c) last new x below q.0 (j.each k part at c q.0 lt (ap
+        (slice_get pairs) (sym is) ∙ q.1)) in
         tree-choice new made.root choice word q.0 (ap (λ l. slice_get l choice) (ap pairs_of here) ∙ q.1)
         ∙ m.words word (lt, w)
         ∙ ap (λ u. tree start u part.root) (shortened_first part.shape.items c word lt);
@@ -135,7 +149,8 @@ pub loop_end : (q n b t u : ℕ) → q ≡ n → u ≤ t + 2 * q * b → u ≤ t
 loop_end q n b t u is le = let e : 2 * q * b ≡ 2 * n * b = ap (λ k. 2 * k * b) is in let g : n * (2 * b) ≡ 2 * n * b = omega arith in omega arith
 
 pub two_sum : (left right : Lsta) → sum_by first_choices (left ∷ right ∷ []) ≡ first_choices left + first_choices right
-two_sum left right = sum_by-cons first_choices left (right ∷ []) ∙ (let e = sum_by-cons first_choices right [] in let g : first_choices left + sum_by first_choices (right ∷ []) ≡ first_choices left + first_choices right = omega arith in g)
+two_sum left right = sum_by-cons first_choices left (right ∷ []) ∙ (let e = sum_by-cons first_choices right [] in
+    let g : first_choices left + sum_by first_choices (right ∷ []) ≡ first_choices left + first_choices right = omega arith in g)
 
 pub one_sum : (left : Lsta) → sum_by first_choices (left ∷ []) ≡ first_choices left
 one_sum left = let e = sum_by-cons first_choices left [] in omega arith
@@ -158,7 +173,8 @@ module _ {L : Type 0} (table : List (Node L)) where
       by (suc (suc k)) part at = cc
 
   -- each level of the union has a choice
-  union_some : (n : ℕ) (parts : List Lsta) → 0 < length parts → AllFit table parts → HaveLevels n parts → IsSome (united_shapes (map shape_of parts)) × (length (united_shapes (map shape_of parts)) ≡ n)
+  union_some : (n : ℕ) (parts : List Lsta) → 0 < length parts → AllFit table parts → HaveLevels n parts
+      → IsSome (united_shapes (map shape_of parts)) × (length (united_shapes (map shape_of parts)) ≡ n)
   union_some n parts some fits levels =
       let first = slice_get-some parts 0 some in
       let wide = part_wider n parts 0 first.0 levels first.1 in (
@@ -171,7 +187,8 @@ module _ {L : Type 0} (table : List (Node L)) where
       let u = union_some n parts some fits levels in
       omega (arith, u.0 0 (omega (arith, u.1, more)), parts_first n parts levels, first_at (united_shapes (map shape_of parts)))
 
-  pub united_levels : (n : ℕ) (parts : List Lsta) (shape : List ℕ) → 0 < n → 0 < length parts → AllFit table parts → HaveLevels n parts → shape ≡ united_shapes (map shape_of parts) → 0 < length shape
+  pub united_levels : (n : ℕ) (parts : List Lsta) (shape : List ℕ) → 0 < n → 0 < length parts → AllFit table parts → HaveLevels n parts
+      → shape ≡ united_shapes (map shape_of parts) → 0 < length shape
   united_levels n parts shape more some fits levels is = omega (arith, (union_some n parts some fits levels).1, ap length is, more)
 
   -- the bound on a union
@@ -186,7 +203,8 @@ module _ {L : Type 0} (table : List (Node L)) where
       let number = parts_first n parts levels in
       let most = budget_steps all u.0 in
       let e : budget all ≡ first_number all + 1 + first_number all * (2 * budget (lower all)) = ap budget split in
-      let f : first_number all + 1 + first_number all * (2 * budget (lower all)) ≡ sum_by first_choices parts + 1 + sum_by first_choices parts * (2 * budget (lower all)) = ap (λ k. k + 1 + k * (2 * budget (lower all))) number in
+      let f : first_number all + 1 + first_number all * (2 * budget (lower all)) ≡ sum_by first_choices parts + 1 + sum_by first_choices parts * (2 * budget (lower all)) = ap
+      (λ k. k + 1 + k * (2 * budget (lower all))) number in
       omega arith
 
   -- what is owed for a part, whatever is done

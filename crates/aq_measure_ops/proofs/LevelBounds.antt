@@ -1,5 +1,6 @@
 -- What is owed for all levels of a tree, with no place counted as another.
-use Rattle.std.proofs.Common.{◌≡◌, ℕ, zero, suc, ◌+◌, ◌-◌, ◌*◌, ◌<◌, ◌≤◌, ◌⊎◌, inl, inr, Bool, true, false, List, [], ◌∷◌, ◌++◌, length, slice_get, Option, None, Some, refl, sym, ap, ap₂, subst, ◌∙◌, arith}
+use Rattle.std.proofs.Common.{◌≡◌, ℕ, zero, suc, ◌+◌, ◌-◌, ◌*◌, ◌<◌, ◌≤◌, ◌⊎◌, inl, inr, Bool, true, false, List, [], ◌∷◌, ◌++◌, length, slice_get}
+use Rattle.std.proofs.Common.{Option, None, Some, refl, sym, ap, ap₂, subst, ◌∙◌, arith}
 use Rattle.std.proofs.Math.Nat.{mul-le-mul_left}
 use Rattle.std.proofs.lemmas.List.{length-append}
 use Rattle.aq_store.specs.declared.node.Node.{Node}
@@ -63,12 +64,14 @@ turned m k n b o le h =
 module _ {L : Type 0} (table : List (Node L)) where
   children_left : (l : List ℕ) (k i c : ℕ) (p : ℕ × ℕ) → slice_get l k ≡ Some i → slice_get (pairs_at table i) c ≡ Some p → IsIn p.0 (children_of table l)
   children_left [] k i c p e f = cc
-  children_left (x ∷ l) zero i c p e f = let s : i ≡ x = cc in in_left (sides (pairs_at table x)) (children_of table l) p.0 (sides_left (pairs_at table x) c p (ap (λ y. slice_get (pairs_at table y) c) (sym s) ∙ f))
+  children_left (x ∷ l) zero i c p e f = let s : i ≡ x = cc in in_left (sides (pairs_at table x)) (children_of table l) p.0 (sides_left (pairs_at table x) c p (ap (λ y. slice_get
+      (pairs_at table y) c) (sym s) ∙ f))
   children_left (x ∷ l) (suc k) i c p e f = in_right (sides (pairs_at table x)) (children_of table l) p.0 (children_left l k i c p e f)
 
   children_right : (l : List ℕ) (k i c : ℕ) (p : ℕ × ℕ) → slice_get l k ≡ Some i → slice_get (pairs_at table i) c ≡ Some p → IsIn p.1 (children_of table l)
   children_right [] k i c p e f = cc
-  children_right (x ∷ l) zero i c p e f = let s : i ≡ x = cc in in_left (sides (pairs_at table x)) (children_of table l) p.1 (sides_right (pairs_at table x) c p (ap (λ y. slice_get (pairs_at table y) c) (sym s) ∙ f))
+  children_right (x ∷ l) zero i c p e f = let s : i ≡ x = cc in in_left (sides (pairs_at table x)) (children_of table l) p.1 (sides_right (pairs_at table x) c p (ap
+      (λ y. slice_get (pairs_at table y) c) (sym s) ∙ f))
   children_right (x ∷ l) (suc k) i c p e f = in_right (sides (pairs_at table x)) (children_of table l) p.1 (children_right l k i c p e f)
 
   children_shaped : (n : ℕ) (shape : List ℕ) (l : List ℕ) → ((i : ℕ) → IsIn i l → HasShape table (n ∷ shape) i) → (j : ℕ) → IsIn j (children_of table l) → HasShape table shape j
@@ -112,7 +115,8 @@ module _ {L : Type 0} (table : List (Node L)) where
   )
 
   -- each place of a level is owed once, at the price of what is made of it
-  pub owed_bound : (none : ℕ → Bool) → ((i : ℕ) → none i ≡ false) → (shape wide l : List ℕ) → IsWider shape wide → ((i : ℕ) → IsIn i l → HasShape table shape i) → owed (prices_of wide) none (all_levels shape l) ≤ length l * budget wide
+  pub owed_bound : (none : ℕ → Bool) → ((i : ℕ) → none i ≡ false) → (shape wide l : List ℕ) → IsWider shape wide → ((i : ℕ) → IsIn i l → HasShape table shape i)
+      → owed (prices_of wide) none (all_levels shape l) ≤ length l * budget wide
   unfolding owed budget
   owed_bound none new [] [] l w all = omega arith
   owed_bound none new [] (n ∷ wide) l w all = absurd w
@@ -138,8 +142,15 @@ module _ {L : Type 0} (table : List (Node L)) where
   root_bound none new shape wide root w s =
       let all = λ (i : ℕ) (h : IsIn i (root ∷ [])). only shape root i h s in
       let b = owed_bound none new shape wide (root ∷ []) w all in
-      let one : 1 * budget wide ≡ budget wide = omega arith in
-      (all_levels shape (root ∷ []), record { closed = are_levels shape (root ∷ []) all; here = subst (IsIn root) (sym (first-all_levels shape (root ∷ []))) (record { place = 0; at = refl }) }, omega arith)
+      let one : 1 * budget wide ≡ budget wide = omega arith in (
+        all_levels shape (root ∷ []),
+        record {
+          closed = are_levels shape (root ∷ []) all;
+          here = subst (IsIn root) (sym (first-all_levels shape (root ∷ [])))
+              (record { place = 0; at = refl });
+        },
+        omega arith,
+      )
 
   -- levels that hold the pairs of a root
   pub pairs_bound : (none : ℕ → Bool) → ((i : ℕ) → none i ≡ false) → (m : ℕ) (shape wide : List ℕ) (root : ℕ) → IsWider shape wide → HasShape table (m ∷ shape) root

@@ -1,5 +1,6 @@
 -- Places with more choices, and memos of them.
-use Rattle.std.proofs.Common.{◌≡◌, ℕ, inl, inr, zero, suc, ◌+◌, ◌-◌, ◌*◌, ◌<◌, ◌≤◌, ◌⊎◌, Bool, true, false, cond, nat_eq, List, [], ◌∷◌, ◌++◌, length, take, drop, get_or, min, slice_get, Option, None, Some, refl, sym, ap, ap₂, subst, ◌∙◌, arith}
+use Rattle.std.proofs.Common.{◌≡◌, ℕ, inl, inr, zero, suc, ◌+◌, ◌-◌, ◌*◌, ◌<◌, ◌≤◌, ◌⊎◌, Bool, true, false, cond, nat_eq, List, [], ◌∷◌, ◌++◌, length}
+use Rattle.std.proofs.Common.{take, drop, get_or, min, slice_get, Option, None, Some, refl, sym, ap, ap₂, subst, ◌∙◌, arith}
 use Rattle.std.specs.List.{AllZip}
 use Rattle.std.proofs.Math.Seq.{drop-cons}
 use Rattle.std.proofs.Math.Nat.{min-eq_left}
@@ -72,14 +73,18 @@ runs_some ps some = by (compress ps) refl
 
 module _ {L : Type 0} where
   -- ---- meanings stay when the table grows
-  pub padded-Extended : (old new : List (Node L)) → Extends old new → (from to : List ℕ) (i : ℕ) → HasShape old from i → (word : List ℕ) (v : List L) → Padded old from to i word v → Padded new from to i word v
+  pub padded-Extended : (old new : List (Node L)) → Extends old new → (from to : List ℕ) (i : ℕ) → HasShape old from i → (word : List ℕ) (v : List L)
+      → Padded old from to i word v → Padded new from to i word v
   padded-Extended old new x from to i s word v h w = h w ∙ sym (tree-Extends-shape old new x from i s (shortened from word))
 
-  pub padded-Extends : (old new : List (Node L)) → Extends old new → (from to : List ℕ) (i : ℕ) → HasShape old from i → (word : List ℕ) (v : List L) → Padded new from to i word v → Padded old from to i word v
+  pub padded-Extends : (old new : List (Node L)) → Extends old new → (from to : List ℕ) (i : ℕ) → HasShape old from i → (word : List ℕ) (v : List L)
+      → Padded new from to i word v → Padded old from to i word v
   padded-Extends old new x from to i s word v h w = h w ∙ tree-Extends-shape old new x from i s (shortened from word)
 
-  pub padded_pair-Extends : (old new : List (Node L)) → Extends old new → (from to : List ℕ) (p : ℕ × ℕ) → HasShape old from p.0 → HasShape old from p.1 → (word : List ℕ) (v : List L) → PaddedPair new from to p word v → PaddedPair old from to p word v
-  padded_pair-Extends old new x from to p s t word v h w = h w ∙ ap₂ (λ l r. l ++ r) (tree-Extends-shape old new x from p.0 s (shortened from word)) (tree-Extends-shape old new x from p.1 t (shortened from word))
+  pub padded_pair-Extends : (old new : List (Node L)) → Extends old new → (from to : List ℕ) (p : ℕ × ℕ) → HasShape old from p.0 → HasShape old from p.1
+      → (word : List ℕ) (v : List L) → PaddedPair new from to p word v → PaddedPair old from to p word v
+  padded_pair-Extends old new x from to p s t word v h w = h w ∙ ap₂ (λ l r. l ++ r) (tree-Extends-shape old new x from p.0 s (shortened from word))
+      (tree-Extends-shape old new x from p.1 t (shortened from word))
 
   -- a place whose numbers stay
   pub padded_same : (table : List (Node L)) (from to : List ℕ) (i : ℕ) → from ≡ to → HasShape table from i → Means (Padded table from to i) table to i
@@ -96,7 +101,8 @@ module _ {L : Type 0} where
       record { left = first.shaped; right = second.shaped; words = λ word w. ap₂ (λ l r. l ++ r) (first.words word w) (second.words word w) }
 
   -- the root's meaning, by a copy of the shape
-  pub padded_root : (old new : List (Node L)) (copy shape wide : List ℕ) (i j : ℕ) → copy ≡ shape → Means (Padded old copy wide i) new wide j → (word : List ℕ) → IsWord wide word → tree new word j ≡ tree old (shortened shape word) i
+  pub padded_root : (old new : List (Node L)) (copy shape wide : List ℕ) (i j : ℕ) → copy ≡ shape → Means (Padded old copy wide i) new wide j → (word : List ℕ)
+      → IsWord wide word → tree new word j ≡ tree old (shortened shape word) i
   padded_root old new copy shape wide i j is m word w = m.words word w ∙ ap (λ u. tree old (shortened u word) i) is
 
   -- ---- the pairs of a place, run by run
@@ -107,7 +113,8 @@ module _ {L : Type 0} where
     pub full : length runs ≤ index → length added ≡ number + more
     pub mean : MeanPairs R table below added
 
-  pub made_none : (R : List ℕ → List L → Type 0) (table start : List (Node L)) (below : List ℕ) (id number more : ℕ) (old : List (ℕ × ℕ)) → 0 < length (pairs_at start id) → IsMade R table below (runs_at start id) number more 0 old old
+  pub made_none : (R : List ℕ → List L → Type 0) (table start : List (Node L)) (below : List ℕ) (id number more : ℕ) (old : List (ℕ × ℕ)) → 0 < length (pairs_at start id)
+      → IsMade R table below (runs_at start id) number more 0 old old
   made_none R table start below id number more old some = record {
     added = [];
     is = sym (none old);
@@ -120,9 +127,12 @@ module _ {L : Type 0} where
       none [] = refl
       none (p ∷ l) = ap (λ u. p ∷ u) (none l)
 
-  pub made_step : (start old new : List (Node L)) → Extends start old → Extends old new → (above below wide : List ℕ) (number all more id index count n : ℕ) (p q : ℕ × ℕ) (before_all pairs next : List (ℕ × ℕ))
-      → above ≡ number ∷ below → HasShape start above id → slice_get (runs_at old id) index ≡ Some (run_of p count) → 0 < count → n ≡ cond (nat_eq (index + 1) (length (runs_at start id))) (count + more) count
-      → IsMade (Padded start above (all ∷ wide) id) old wide (runs_at start id) number more index before_all pairs → MeansPair (PaddedPair old below wide p) new wide q → next ≡ pairs ++ copies n q
+  pub made_step : (start old new : List (Node L)) → Extends start old → Extends old new → (above below wide : List ℕ) (number all more id index count n : ℕ) (p q : ℕ × ℕ)
+      (before_all pairs next : List (ℕ × ℕ))
+      → above ≡ number ∷ below → HasShape start above id → slice_get (runs_at old id) index ≡ Some (run_of p count) → 0 < count
+      → n ≡ cond (nat_eq (index + 1) (length (runs_at start id))) (count + more) count
+      → IsMade (Padded start above (all ∷ wide) id) old wide (runs_at start id) number more index before_all pairs → MeansPair (PaddedPair old below wide p) new wide q
+      → next ≡ pairs ++ copies n q
       → IsMade (Padded start above (all ∷ wide) id) new wide (runs_at start id) number more (index + 1) before_all next
   made_step start old new x y above below wide number all more id index count n p q before_all pairs next split s run some times m image is =
       by (nat_eq (index + 1) (length runs)) refl
@@ -190,7 +200,8 @@ module _ {L : Type 0} where
                 (λ c le lt. under_choice c (omega (arith, long, some, fits)) (omega (arith, long, fits, same)));
           }
 
-  pub made_all : (R : List ℕ → List L → Type 0) (table : List (Node L)) (below : List ℕ) (runs : List Run) (number more index : ℕ) (old now : List (ℕ × ℕ)) → length runs ≤ index → IsMade R table below runs number more index old now → Appends R table below (number + more) old now
+  pub made_all : (R : List ℕ → List L → Type 0) (table : List (Node L)) (below : List ℕ) (runs : List Run) (number more index : ℕ) (old now : List (ℕ × ℕ)) → length runs ≤ index
+      → IsMade R table below runs number more index old now → Appends R table below (number + more) old now
   made_all R table below runs number more index old now le m = record { added = m.added; is = m.is; long = m.full le; mean = m.mean }
 
   -- the node of the pairs
@@ -209,15 +220,20 @@ module _ {L : Type 0} where
   IsPadMemo-Extends old new x to at m = record {
     each = λ i j e.
         (let r = m.each i j e in
-        let below = drop (length to - length r.0) to in
-        (r.0, HasShape-Extends old new x r.0 i r.1, Means-same (Padded old r.0 below i) (Padded new r.0 below i) new below j (padded-Extended old new x r.0 below i r.1) (Means-Extends (Padded old r.0 below i) old new x below j r.2)));
+        let below = drop (length to - length r.0) to in (
+          r.0,
+          HasShape-Extends old new x r.0 i r.1,
+          Means-same (Padded old r.0 below i) (Padded new r.0 below i) new below j (padded-Extended old new x r.0 below i r.1)
+              (Means-Extends (Padded old r.0 below i) old new x below j r.2),
+        ));
   }
 
   pub IsPadMemo-none : (table : List (Node L)) (to : List ℕ) (at : ℕ → Option ℕ) → ((q : ℕ) → at q ≡ None) → IsPadMemo table to at
   IsPadMemo-none table to at none = record { each = λ i j e. (let z = sym (none i) ∙ e in cc) }
 
   -- what the memo has for a place of a depth
-  pub padded_found : (table : List (Node L)) (to : List ℕ) (at : ℕ → Option ℕ) (from : List ℕ) (d i j : ℕ) → IsPadMemo table to at → length from ≡ length to → d ≤ length from → HasShape table (drop d from) i → at i ≡ Some j
+  pub padded_found : (table : List (Node L)) (to : List ℕ) (at : ℕ → Option ℕ) (from : List ℕ) (d i j : ℕ) → IsPadMemo table to at → length from ≡ length to → d ≤ length from
+      → HasShape table (drop d from) i → at i ≡ Some j
       → Means (Padded table (drop d from) (drop d to) i) table (drop d to) j
   padded_found table to at from d i j m same le s e =
       let r = m.each i j e in
@@ -225,7 +241,8 @@ module _ {L : Type 0} where
       subst (λ u. Means (Padded table (drop d from) u i) table u j) (sym (from_end d from to same le))
       (subst (λ u. Means (Padded table u (drop (length to - length u) to) i) table (drop (length to - length u) to) j) k r.2)
 
-  pub IsPadMemo-put : (old table : List (Node L)) → Extends old table → (to : List ℕ) (at new : ℕ → Option ℕ) (from : List ℕ) (d i j : ℕ) → length from ≡ length to → d ≤ length from → HasShape old (drop d from) i → IsPadMemo table to at
+  pub IsPadMemo-put : (old table : List (Node L)) → Extends old table → (to : List ℕ) (at new : ℕ → Option ℕ) (from : List ℕ) (d i j : ℕ) → length from ≡ length to
+      → d ≤ length from → HasShape old (drop d from) i → IsPadMemo table to at
       → Means (Padded old (drop d from) (drop d to) i) table (drop d to) j → ((q : ℕ) → new q ≡ cond (nat_eq i q) (Some j) (at q)) → IsPadMemo table to new
   IsPadMemo-put old table x to at new from d i j same le s m image is = record { each = λ k l e. by k l (nat_eq i k) refl (sym (is k) ∙ e) }
     where
@@ -240,6 +257,10 @@ module _ {L : Type 0} where
           let own : i ≡ k = eqb-true i k e in
           let value : Some j ≡ Some l = ap (λ c. cond c (Some j) (at k)) (sym e) ∙ f in
           let made : j ≡ l = cc in
-          let to_end = drop (length to - length (drop d from)) to in
-          (drop d from, subst (HasShape table (drop d from)) own (HasShape-Extends old table x (drop d from) i s), subst (λ y. Means (Padded table (drop d from) to_end k) table to_end y) made (subst (λ y. Means (Padded table (drop d from) to_end y) table to_end j) own here))
+          let to_end = drop (length to - length (drop d from)) to in (
+            drop d from,
+            subst (HasShape table (drop d from)) own (HasShape-Extends old table x (drop d from) i s),
+            subst (λ y. Means (Padded table
+                (drop d from) to_end k) table to_end y) made (subst (λ y. Means (Padded table (drop d from) to_end y) table to_end j) own here),
+          )
       by k l false e f = m.each k l (ap (λ c. cond c (Some j) (at k)) (sym e) ∙ f)

@@ -1,5 +1,6 @@
 -- Shapes of unions.
-use Rattle.std.proofs.Common.{◌≡◌, ℕ, inl, inr, zero, suc, ◌+◌, ◌-◌, ◌*◌, ◌<◌, ◌≤◌, ◌⊎◌, List, [], ◌∷◌, ◌++◌, map, length, take, drop, get_or, min, max, slice_get, sum_by, Option, None, Some, refl, sym, ap, ap₂, subst, ◌∙◌, arith}
+use Rattle.std.proofs.Common.{◌≡◌, ℕ, inl, inr, zero, suc, ◌+◌, ◌-◌, ◌*◌, ◌<◌, ◌≤◌, ◌⊎◌, List, [], ◌∷◌, ◌++◌, map, length, take, drop, get_or, min}
+use Rattle.std.proofs.Common.{max, slice_get, sum_by, Option, None, Some, refl, sym, ap, ap₂, subst, ◌∙◌, arith}
 use Rattle.std.specs.List.{AllZip, fold}
 use Rattle.std.proofs.Math.Nat.{le-max_left, min-eq_left}
 use Rattle.std.proofs.lemmas.List.{map-append, take_more}
@@ -60,7 +61,8 @@ first_both (x ∷ a) [] e = absurd (omega arith)
 first_both (x ∷ a) (y ∷ s) e = refl
 
 pub first_united : (a s : List ℕ) (n : ℕ) → IsLike a n → length s ≡ n → first_number (united_shape a s) ≡ first_number a + first_number s
-first_united a s n (inl e) long = ap (λ u. first_number (united_shape u s)) e ∙ (let z : first_number s ≡ 0 + first_number s = omega arith in z) ∙ ap (λ u. first_number u + first_number s) (sym e)
+first_united a s n (inl e) long = ap (λ u. first_number (united_shape u s)) e ∙ (let z : first_number s ≡ 0 + first_number s = omega arith in z)
+    ∙ ap (λ u. first_number u + first_number s) (sym e)
 first_united a s n (inr e) long = first_both a s (e ∙ sym long)
 
 -- the first choice is of the part, and what is below is shortened
@@ -96,7 +98,8 @@ many_wider n (part ∷ parts) a like h =
     wider_trans a (united_shape a part.shape.items) (fold united_shape (united_shape a part.shape.items) (map shape_of parts)) (wider_left a part.shape.items (like ∙ sym long))
     (many_wider n parts (united_shape a part.shape.items) (united_long a part.shape.items n (inr like) long) (tail_levels n part parts h))
 
-each_wider : (n : ℕ) (parts : List Lsta) (a : List ℕ) (k : ℕ) (p : Lsta) → IsLike a n → HaveLevels n parts → slice_get parts k ≡ Some p → IsWider p.shape.items (fold united_shape a (map shape_of parts))
+each_wider : (n : ℕ) (parts : List Lsta) (a : List ℕ) (k : ℕ) (p : Lsta) → IsLike a n → HaveLevels n parts → slice_get parts k ≡ Some p
+    → IsWider p.shape.items (fold united_shape a (map shape_of parts))
 each_wider n [] a k p like h at = cc
 each_wider n (part ∷ parts) a zero p like h at =
     let long = h.each 0 part refl in
@@ -136,8 +139,10 @@ front_sum parts k part at =
     let most = sum_by-take-le first_choices parts (k + 1) in
     omega arith
 
-pub shapes_more : (parts : List Lsta) (k : ℕ) (part : Lsta) → slice_get parts k ≡ Some part → united_shapes (map shape_of (take (k + 1) parts)) ≡ united_shape (united_shapes (map shape_of (take k parts))) part.shape.items
-shapes_more parts k part at = ap (λ l. united_shapes (map shape_of l)) (front_more parts k part at) ∙ ap united_shapes (map-append shape_of (take k parts) (part ∷ [])) ∙ fold-append united_shape [] (map shape_of (take k parts)) (part.shape.items ∷ [])
+pub shapes_more : (parts : List Lsta) (k : ℕ) (part : Lsta) → slice_get parts k ≡ Some part → united_shapes (map shape_of (take (k + 1) parts)) ≡ united_shape (united_shapes
+    (map shape_of (take k parts))) part.shape.items
+shapes_more parts k part at = ap (λ l. united_shapes (map shape_of l)) (front_more parts k part at) ∙ ap united_shapes (map-append shape_of (take k parts) (part ∷ []))
+    ∙ fold-append united_shape [] (map shape_of (take k parts)) (part.shape.items ∷ [])
 
 -- ---- the loop that makes a shape
 larger_push : (a b : List ℕ) (i : ℕ) → length a ≡ length b → i < length a → larger (take (i + 1) a) (take (i + 1) b) ≡ larger (take i a) (take i b) ++ max (get_or a i 0) (get_or b i 0) ∷ []
@@ -148,7 +153,8 @@ larger_push (x ∷ a) (y ∷ b) (suc i) e lt =
     let next : suc i + 1 ≡ suc (i + 1) = omega arith in
     ap (λ k. larger (take k (x ∷ a)) (take k (y ∷ b))) next ∙ ap (λ l. max x y ∷ l) (larger_push a b i (omega arith) (omega arith))
 
-pub united_push : (a b : List ℕ) (i : ℕ) → length a ≡ length b → 1 ≤ i → i < length a → united_shape (take (i + 1) a) (take (i + 1) b) ≡ united_shape (take i a) (take i b) ++ max (get_or a i 0) (get_or b i 0) ∷ []
+pub united_push : (a b : List ℕ) (i : ℕ) → length a ≡ length b → 1 ≤ i → i < length a → united_shape (take (i + 1) a) (take (i + 1) b) ≡ united_shape (take i a) (take i b) ++ max
+    (get_or a i 0) (get_or b i 0) ∷ []
 united_push [] b i e some lt = absurd (omega arith)
 united_push (x ∷ a) [] i e some lt = absurd (omega arith)
 united_push (x ∷ a) (y ∷ b) zero e some lt = absurd (omega arith)
@@ -171,7 +177,8 @@ same_levels before shape more n is (inl e) long some = absurd (let z = ap length
 same_levels before shape more n is (inr e) long some = ap length is ∙ e ∙ sym long
 
 -- the choices so far and a part's are no more than all
-pub front_first : (n : ℕ) (parts : List Lsta) (k : ℕ) (part : Lsta) (before more : List ℕ) → HaveLevels n parts → slice_get parts k ≡ Some part → before ≡ united_shapes (map shape_of (take k parts)) → more ≡ part.shape.items
+pub front_first : (n : ℕ) (parts : List Lsta) (k : ℕ) (part : Lsta) (before more : List ℕ) → HaveLevels n parts → slice_get parts k ≡ Some part
+    → before ≡ united_shapes (map shape_of (take k parts)) → more ≡ part.shape.items
     → first_number before + first_number more ≤ first_number (united_shapes (map shape_of parts))
 front_first n parts k part before more h at is same =
     let a = ap first_number is ∙ parts_first n (take k parts) (front_levels n parts k h) in

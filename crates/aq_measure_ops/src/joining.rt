@@ -1,21 +1,4 @@
-ghost use Rattle.std.specs.Prelude.{
-  ◌≡◌,
-  ℕ,
-  ◌+◌,
-  ◌*◌,
-  ◌^◌,
-  ◌<◌,
-  ◌≤◌,
-  ◌∷◌,
-  [],
-  length,
-  drop,
-  map,
-  IfOk,
-  IfErr,
-  OnOk,
-  IsTrue,
-};
+ghost use Rattle.std.specs.Prelude.{◌≡◌, ℕ, ◌+◌, ◌*◌, ◌^◌, ◌<◌, ◌≤◌, ◌∷◌, length, map, IfOk, IfErr, OnOk, IsTrue};
 ghost use Rattle.aq_store.specs.Nodes.{Extends, FitsStore, total_cost};
 ghost use Rattle.aq_store.specs.Memos.{memo_at, is_done};
 ghost use Rattle.aq_store.specs.Accounts.{HoldPairs, TakesOwed, PaysOwed, StopsOwed};
@@ -87,8 +70,8 @@ fn united_all<L>(alloc: Global, parts: &[Lsta], steps: &mut Steps) -> Result<Vec
     ensures limit { steps.new.limit ≡ steps.old.limit }
     ensures later { steps.old.taken ≤ steps.new.taken }
     ensures cheap { steps.new.taken ≤ steps.old.taken + first_number (united_shapes (map shape_of parts.now)) }
-    ensures refused { IfErr result (GivesUp (first_number (united_shapes
-        (map shape_of parts.now))) steps.old steps.new) }
+    ensures refused { let choices = first_number (united_shapes (map shape_of parts.now)) in
+        IfErr result (GivesUp choices steps.old steps.new) }
 {
     let mut shape = Vec::new(alloc);
     for part in parts {

@@ -177,9 +177,9 @@ fn pad_pair<L: Label>(
     Ok((first, second))
 }
 
-/// An automaton with more choices. It has the numbers of choices of the shape, which are no smaller than its own, and
-/// of each word the vector of the word in which a choice past the old number is the last old one. It gives up for
-/// want of steps or of memory alone, and nodes of the store keep their meaning.
+/// An automaton with more choices. It has the numbers of choices of the shape, which are no smaller than its own,
+/// and of each word the vector of the word in which a choice past the old number is the last old one. It gives up
+/// for want of steps or of memory alone, and nodes of the store keep their meaning.
 pub fn pad<L: Label>(
     alloc: Global,
     store: &mut Store<L>,

@@ -12,8 +12,8 @@ use aq_label::Label;
 use aq_store::{Id, Lsta, Memo, Pairs, Steps, Stop, Store};
 use std::alloc::Global;
 
-/// The projection of a node at a depth that is no deeper than the qubit's. The zero is a tree of zeros for the depth
-/// below the qubit's, and the memo has the projections of nodes that were met before.
+/// The projection of a node at a depth that is no deeper than the qubit's. The zero is a tree of zeros for the
+/// depth below the qubit's, and the memo has the projections of nodes that were met before.
 #[cycle(project)]
 fn project_at<L: Label>(
     alloc: Global,
@@ -66,8 +66,8 @@ fn project_at<L: Label>(
     Ok(made)
 }
 
-/// The projection of a pair of a node at this depth: at the qubit's own depth one side becomes zero, and above it both
-/// sides are projected.
+/// The projection of a pair of a node at this depth: at the qubit's own depth one side becomes zero, and above it
+/// both sides are projected.
 #[cycle(project)]
 fn project_pair<L: Label>(
     alloc: Global,

@@ -1,5 +1,6 @@
--- The grammar of programs, rule by rule: which token lists stand for which tree. It follows the grammar of
--- OpenQASM 3.0, cut to the statements that are taken. Above each word stands its rule, in extended Backus-Naur form:
+-- The grammar of programs, rule by rule: which token lists stand for which tree. It is this language's own, laid out in the
+-- order of the grammar of OpenQASM 3.0, of whose texts it takes a part. Above each word stands its rule, in extended
+-- Backus-Naur form:
 -- `{ x }` is any number of x, `[ x ]` is none or one, and what is in quotes is that token.
 use Rattle.std.specs.Prelude.{◌≡◌, ℕ, zero, suc, List, [], ◌∷◌, Option, Some, None, Bool, true, false}
 use Rattle.aq_grammar.specs.Words.{◌⨾◌, IsOptional, IsMany, IsSeparated, IsPlaced, IsSeen}

@@ -1,4 +1,5 @@
--- The gates by name, as in OpenQASM 3.0's standard library.
+-- The gates by name. The matrices are this project's own choice; their names are those of OpenQASM 3.0's standard library,
+-- which other tools may give other global phases.
 use Rattle.std.specs.Prelude.{ℕ, ◌+◌, ◌-◌, ◌%◌, ◌==◌, ℤ, pos, unsigned_abs, int_div, List, [], ◌∷◌, slice_index_or, Option, Some, None, if◌then◌else◌, codes}
 use Rattle.std.specs.Int.{int_rem_euclid}
 use Rattle.std.specs.Option.{option_or}

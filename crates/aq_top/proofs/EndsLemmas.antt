@@ -77,9 +77,9 @@ refused_end told RF w r cause s text e = inr (record { refusal = r; cause = caus
 
 verdict_says : (told : Option Held) (RF : List ℕ → Type 0) (WF : Type 0) (w : CheckWords) (v : Verdict) (text : List ℕ) → IsReport told w (verdict_status v) text
     → StatusSays told RF WF (Some (Check w)) (verdict_status v) text
-verdict_says told RF WF w verdict.Verified text r = (w, refl, r)
-verdict_says told RF WF w (verdict.Refuted x) text r = (w, refl, r)
-verdict_says told RF WF w (verdict.GaveUp x) text r = (w, refl, r)
+verdict_says told RF WF w verdict.Verified text r = r
+verdict_says told RF WF w (verdict.Refuted x) text r = r
+verdict_says told RF WF w (verdict.GaveUp x) text r = r
 
 read_failed : (told : Option Held) (RF : List ℕ → Type 0) (w : CheckWords) (r : Refusal) → refusal_status r ≡ status.Read → CheckCause told RF w r → RF w.program ⊎ RF w.sets
 read_failed told RF w (refusal.ReadFault file) e (inl cause) = inl cause.1
@@ -168,10 +168,10 @@ some_is x y e = cc
 
 -- and its program is correct
 pub report_is_correct : (told : Option Held) (words : Option Command) (text : List ℕ) → IsReportOf told words status.Good text → ToldIsCorrect told words
-report_is_correct told words text r = λ held w t told_is words_are says.
-    let report = r.2 in
-    let same : r.0 ≡ w = some_is r.0 w (sym r.1 ∙ words_are) in
-    let read : ReadsTask told w report.task = subst (λ (x : CheckWords). ReadsTask told x report.task) same report.read in
-    let task : report.task ≡ t = told_task told held w report.task t told_is read says in
+report_is_correct told None text r = absurd r
+report_is_correct told (Some (Check v)) text r = λ held w t told_is words_are says.
+    let same : v ≡ w = some_is v w words_are in
+    let read : ReadsTask told w r.task = subst (λ (x : CheckWords). ReadsTask told x r.task) same r.read in
+    let task : r.task ≡ t = told_task told held w r.task t told_is read says in
     subst (λ (x : Task). IsCorrect (program_of x)) task
-    (task_correct report.task read.gates (true_of most_steps (enough_for report.task) (obligation_of report.task) report.verdict report.status_is report.justified))
+    (task_correct r.task read.gates (true_of most_steps (enough_for r.task) (obligation_of r.task) r.verdict r.status_is r.justified))

@@ -18,7 +18,8 @@ IsAnswer _ = ⊥
 
 -- the words name two files, and the text is a report on what these files say, with justified verdicts
 abbrev pub IsReportOf : Option Held → Option Command → Status → List ℕ → Type 0
-IsReportOf told words result text = (w : CheckWords) × (words ≡ Some (Check w)) × IsReport told w result text
+IsReportOf told None result text = ⊥
+IsReportOf told (Some (Check w)) result text = IsReport told w result text
 
 -- what the sink's bytes grew by is such a report
 abbrev pub Reports : Option Held → Option Command → Option (List ℕ) → Option (List ℕ) → Status → Type 0

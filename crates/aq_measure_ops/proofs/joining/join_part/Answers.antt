@@ -23,18 +23,23 @@ pad_runs-requires-clause-room g c = omega (arith, c.requires.room, first_at c.ar
 pub returns-clause-pairs : goal.returns-clause-pairs
 returns-clause-pairs g c =
     let number : get_or c.args.part.now.shape.items 0 0 + 0 ≡ first_number c.args.part.now.shape.items = omega (arith, first_at c.args.part.now.shape.items) in
-    subst (λ k. OnOk c.pad_runs.result (Appends (Padded c.args.store.now c.args.part.now.shape.items (k ∷ lower c.args.shape.now) c.args.part.now.root) c.pad_runs.new.store (lower c.args.shape.now) k c.args.pairs.now c.pad_runs.new.pairs)) number
-    (subst (λ u. OnOk c.pad_runs.result (Appends (Padded c.args.store.now u ((get_or u 0 0 + 0) ∷ lower c.args.shape.now) c.args.part.now.root) c.pad_runs.new.store (lower c.args.shape.now) (get_or u 0 0 + 0) c.args.pairs.now c.pad_runs.new.pairs)) c.as_slice-from.ensures.value
+    subst (λ k. OnOk c.pad_runs.result (Appends (Padded c.args.store.now c.args.part.now.shape.items (k ∷ lower c.args.shape.now) c.args.part.now.root) c.pad_runs.new.store
+    (lower c.args.shape.now) k c.args.pairs.now c.pad_runs.new.pairs)) number
+    (subst (λ u. OnOk c.pad_runs.result (Appends (Padded c.args.store.now u ((get_or u 0 0 + 0) ∷ lower c.args.shape.now) c.args.part.now.root) c.pad_runs.new.store
+    (lower c.args.shape.now) (get_or u 0 0 + 0) c.args.pairs.now c.pad_runs.new.pairs)) c.as_slice-from.ensures.value
     c.pad_runs.ensures.pairs)
 
 pub returns-clause-cheap : goal.returns-clause-cheap
 returns-clause-cheap g c =
-    subst (λ u. TakesOwed (HoldPairs c.args.store.now (lower u) c.args.part.now.root) (lower c.args.shape.now) (memo_at c.args.memo.now) c.args.steps.now c.pad_runs.new.steps) c.as_slice-from.ensures.value c.pad_runs.ensures.cheap
+    subst (λ u. TakesOwed (HoldPairs c.args.store.now (lower u) c.args.part.now.root) (lower c.args.shape.now)
+    (memo_at c.args.memo.now) c.args.steps.now c.pad_runs.new.steps) c.as_slice-from.ensures.value c.pad_runs.ensures.cheap
 
 pub returns-clause-steps : goal.returns-clause-steps
 returns-clause-steps g c =
-    subst (λ u. OnOk c.pad_runs.result (PaysOwed (HoldPairs c.args.store.now (lower u) c.args.part.now.root) (lower c.args.shape.now) (memo_at c.args.memo.now) (memo_at c.pad_runs.new.memo) c.args.steps.now c.pad_runs.new.steps)) c.as_slice-from.ensures.value c.pad_runs.ensures.steps
+    subst (λ u. OnOk c.pad_runs.result (PaysOwed (HoldPairs c.args.store.now (lower u) c.args.part.now.root) (lower c.args.shape.now) (memo_at c.args.memo.now)
+    (memo_at c.pad_runs.new.memo) c.args.steps.now c.pad_runs.new.steps)) c.as_slice-from.ensures.value c.pad_runs.ensures.steps
 
 pub returns-clause-refused : goal.returns-clause-refused
 returns-clause-refused g c =
-    subst (λ u. IfErr c.pad_runs.result (StopsOwed (HoldPairs c.args.store.now (lower u) c.args.part.now.root) (lower c.args.shape.now) (memo_at c.args.memo.now) c.args.steps.now c.pad_runs.new.steps)) c.as_slice-from.ensures.value c.pad_runs.ensures.refused
+    subst (λ u. IfErr c.pad_runs.result (StopsOwed (HoldPairs c.args.store.now (lower u) c.args.part.now.root) (lower c.args.shape.now)
+    (memo_at c.args.memo.now) c.args.steps.now c.pad_runs.new.steps)) c.as_slice-from.ensures.value c.pad_runs.ensures.refused

@@ -12,7 +12,8 @@ use Rattle.aq_measure_ops.specs.Joining.{shape_of, first_choices, HasPart}
 use Rattle.aq_measure_ops.proofs.BudgetLemmas.{budget}
 use Rattle.aq_measure_ops.proofs.PaddingLemmas.{IsPadMemo-none}
 use Rattle.aq_measure_ops.proofs.UnitedLemmas.{part_wider, parts_first, first_at, front_more, front_sum, take_all}
-use Rattle.aq_measure_ops.proofs.JoiningLemmas.{IsJoined, join_none, join_step, joined_heights, joined_root, joined_part, loop_most, loop_step, loop_end, one_sum, two_sum, two_levels, two_fit, union_first, union_bound, united_levels, part_owed}
+use Rattle.aq_measure_ops.proofs.JoiningLemmas.{IsJoined, join_none, join_step, joined_heights, joined_root, joined_part, loop_most, loop_step}
+use Rattle.aq_measure_ops.proofs.JoiningLemmas.{loop_end, one_sum, two_sum, two_levels, two_fit, union_first, union_bound, united_levels, part_owed}
 use Rattle.aq_measure_ops.proofs.joining.union_of.Goals as goal
 
 pub returns-in_err-shape-clause-steps : goal.returns-in_err-shape-clause-steps
@@ -28,7 +29,9 @@ returns-in_err-shape-clause-refused g c =
     let levels = c.requires.levels.2 in
     let most = union_bound c.args.store.now n c.args.parts.now c.requires.levels.1 c.requires.some c.requires.fits levels in
     passed_on _ c.from_residual.result c.in_err-shape.field-0.0 c.from_residual.ensures
-    (GivesUp-within c.args.steps.now c.args.steps.now c.united_all.new.steps (first_number (united_shapes (map shape_of c.args.parts.now))) (2 * words (united_shapes (map shape_of c.args.parts.now)) * 2 ^ (length (united_shapes (map shape_of c.args.parts.now)) + 1)) _ refl (omega (arith, most, parts_first n c.args.parts.now levels)) c.in_err-shape.ensures.refused)
+    (GivesUp-within c.args.steps.now c.args.steps.now c.united_all.new.steps (first_number (united_shapes (map shape_of c.args.parts.now))) (2 * words (united_shapes
+    (map shape_of c.args.parts.now)) * 2 ^ (length (united_shapes (map shape_of c.args.parts.now)) + 1)) _ refl (omega
+    (arith, most, parts_first n c.args.parts.now levels)) c.in_err-shape.ensures.refused)
 
 pub join_part-requires-clause-fits : goal.join_part-requires-clause-fits
 join_part-requires-clause-fits g c =
@@ -82,8 +85,11 @@ returns-in_err-join_part-clause-steps g c =
     let same_budget : budget (lower c.as_slice-wide.result.now) ≡ budget (lower (united_shapes (map shape_of c.args.parts.now))) = ap (λ u. budget (lower u)) is in
     let front = front_sum c.args.parts.now k part at in
     let long = c.loop-part.invariant.joined.long in
-    let part_most = loop_most (length c.loop-part.pairs) (first_choices part) (sum_by first_choices c.args.parts.now) (budget (lower c.as_slice-wide.result.now)) c.args.steps.now.taken c.loop-part.steps.taken (c.loop-part.steps.taken + owed (prices_of (lower c.as_slice-wide.result.now)) (is_done (memo_at c.loop-part.memo)) r.0) (omega (arith, long, front)) c.loop-part.invariant.cost (omega (arith, r.2)) in
-    let same_most : (sum_by first_choices c.args.parts.now) * (2 * (budget (lower c.as_slice-wide.result.now))) ≡ (sum_by first_choices c.args.parts.now) * (2 * budget (lower (united_shapes (map shape_of c.args.parts.now)))) = ap (λ b. (sum_by first_choices c.args.parts.now) * (2 * b)) same_budget in
+    let part_most = loop_most (length c.loop-part.pairs) (first_choices part) (sum_by first_choices c.args.parts.now) (budget
+    (lower c.as_slice-wide.result.now)) c.args.steps.now.taken c.loop-part.steps.taken (c.loop-part.steps.taken + owed (prices_of (lower c.as_slice-wide.result.now)) (is_done
+    (memo_at c.loop-part.memo)) r.0) (omega (arith, long, front)) c.loop-part.invariant.cost (omega (arith, r.2)) in
+    let same_most : (sum_by first_choices c.args.parts.now) * (2 * (budget (lower c.as_slice-wide.result.now))) ≡ (sum_by first_choices c.args.parts.now) * (2 * budget (lower
+    (united_shapes (map shape_of c.args.parts.now)))) = ap (λ b. (sum_by first_choices c.args.parts.now) * (2 * b)) same_budget in
     let h = c.join_part.ensures.cheap r.0 r.1 in
     omega (arith, most, part_most, same_most, h)
 
@@ -103,10 +109,14 @@ returns-in_err-join_part-clause-refused g c =
     let same_budget : budget (lower c.as_slice-wide.result.now) ≡ budget (lower (united_shapes (map shape_of c.args.parts.now))) = ap (λ u. budget (lower u)) is in
     let front = front_sum c.args.parts.now k part at in
     let long = c.loop-part.invariant.joined.long in
-    let part_most = loop_most (length c.loop-part.pairs) (first_choices part) (sum_by first_choices c.args.parts.now) (budget (lower c.as_slice-wide.result.now)) c.args.steps.now.taken c.loop-part.steps.taken (c.loop-part.steps.taken + owed (prices_of (lower c.as_slice-wide.result.now)) (is_done (memo_at c.loop-part.memo)) r.0) (omega (arith, long, front)) c.loop-part.invariant.cost (omega (arith, r.2)) in
-    let same_most : (sum_by first_choices c.args.parts.now) * (2 * (budget (lower c.as_slice-wide.result.now))) ≡ (sum_by first_choices c.args.parts.now) * (2 * budget (lower (united_shapes (map shape_of c.args.parts.now)))) = ap (λ b. (sum_by first_choices c.args.parts.now) * (2 * b)) same_budget in
+    let part_most = loop_most (length c.loop-part.pairs) (first_choices part) (sum_by first_choices c.args.parts.now) (budget
+    (lower c.as_slice-wide.result.now)) c.args.steps.now.taken c.loop-part.steps.taken (c.loop-part.steps.taken + owed (prices_of (lower c.as_slice-wide.result.now)) (is_done
+    (memo_at c.loop-part.memo)) r.0) (omega (arith, long, front)) c.loop-part.invariant.cost (omega (arith, r.2)) in
+    let same_most : (sum_by first_choices c.args.parts.now) * (2 * (budget (lower c.as_slice-wide.result.now))) ≡ (sum_by first_choices c.args.parts.now) * (2 * budget (lower
+    (united_shapes (map shape_of c.args.parts.now)))) = ap (λ b. (sum_by first_choices c.args.parts.now) * (2 * b)) same_budget in
     passed_on _ c.from_residual-in_err-join_part.result c.in_err-join_part.field-0.0 c.from_residual-in_err-join_part.ensures
-    (GivesUp-within c.args.steps.now c.loop-part.steps c.join_part.new.steps (owed (prices_of (lower c.as_slice-wide.result.now)) (is_done (memo_at c.loop-part.memo)) r.0) (2 * words (united_shapes (map shape_of c.args.parts.now)) * 2 ^ (length (united_shapes (map shape_of c.args.parts.now)) + 1)) _ c.loop-part.invariant.limit
+    (GivesUp-within c.args.steps.now c.loop-part.steps c.join_part.new.steps (owed (prices_of (lower c.as_slice-wide.result.now)) (is_done (memo_at c.loop-part.memo)) r.0)
+    (2 * words (united_shapes (map shape_of c.args.parts.now)) * 2 ^ (length (united_shapes (map shape_of c.args.parts.now)) + 1)) _ c.loop-part.invariant.limit
     (omega (arith, most, part_most, same_most)) (c.in_err-join_part.ensures.refused r.0 r.1))
 
 pub loop-part-preserved : goal.loop-part-preserved
@@ -129,10 +139,12 @@ loop-part-preserved g c =
       paid = c.join_part.ensures.paid;
       limit = c.join_part.ensures.limit ∙ c.loop-part.invariant.limit;
       memo = c.in_ok-join_part.ensures.memo;
-      cost = loop_step (length c.loop-part.pairs) (first_choices part) (length c.join_part.new.pairs) (budget (lower c.as_slice-wide.result.now)) c.args.steps.now.taken c.loop-part.steps.taken c.join_part.new.steps.taken
+      cost = loop_step (length c.loop-part.pairs) (first_choices part) (length c.join_part.new.pairs) (budget
+          (lower c.as_slice-wide.result.now)) c.args.steps.now.taken c.loop-part.steps.taken c.join_part.new.steps.taken
           (ap length pairs.is ∙ length-append c.loop-part.pairs pairs.added ∙ ap (λ m. length c.loop-part.pairs + m) pairs.long) c.loop-part.invariant.cost (omega (arith, h, r.2));
       joined = subst (λ l. IsJoined c.args.store.now c.join_part.new.store (lower c.as_slice-wide.result.now) l c.join_part.new.pairs) (sym (front_more c.args.parts.now k part at))
-          (join_step c.args.store.now c.loop-part.store c.join_part.new.store c.loop-part.invariant.keeps c.join_part.ensures.keeps (lower c.as_slice-wide.result.now) (take k c.args.parts.now) part c.loop-part.pairs c.join_part.new.pairs start c.loop-part.invariant.joined pairs);
+          (join_step c.args.store.now c.loop-part.store c.join_part.new.store c.loop-part.invariant.keeps c.join_part.ensures.keeps (lower c.as_slice-wide.result.now)
+          (take k c.args.parts.now) part c.loop-part.pairs c.join_part.new.pairs start c.loop-part.invariant.joined pairs);
     }
 
 pub node_of-requires-clause-some : goal.node_of-requires-clause-some
@@ -158,8 +170,10 @@ returns-in_err-root-clause-steps g c =
     let same_budget : budget (lower c.as_slice-wide.result.now) ≡ budget (lower (united_shapes (map shape_of c.args.parts.now))) = ap (λ u. budget (lower u)) is in
     let over : take c.loop-part.part-index c.args.parts.now ≡ c.args.parts.now = take_all c.args.parts.now c.loop-part.part-index c.loop-part-test.false in
     let joined = subst (λ l. IsJoined c.args.store.now c.loop-part.store (lower c.as_slice-wide.result.now) l c.loop-part.pairs) over c.loop-part.invariant.joined in
-    let end_most = loop_end (length c.loop-part.pairs) (sum_by first_choices c.args.parts.now) (budget (lower c.as_slice-wide.result.now)) c.args.steps.now.taken c.loop-part.steps.taken joined.long c.loop-part.invariant.cost in
-    let same_most : (sum_by first_choices c.args.parts.now) * (2 * (budget (lower c.as_slice-wide.result.now))) ≡ (sum_by first_choices c.args.parts.now) * (2 * budget (lower (united_shapes (map shape_of c.args.parts.now)))) = ap (λ b. (sum_by first_choices c.args.parts.now) * (2 * b)) same_budget in
+    let end_most = loop_end (length c.loop-part.pairs) (sum_by first_choices c.args.parts.now) (budget
+    (lower c.as_slice-wide.result.now)) c.args.steps.now.taken c.loop-part.steps.taken joined.long c.loop-part.invariant.cost in
+    let same_most : (sum_by first_choices c.args.parts.now) * (2 * (budget (lower c.as_slice-wide.result.now))) ≡ (sum_by first_choices c.args.parts.now) * (2 * budget (lower
+    (united_shapes (map shape_of c.args.parts.now)))) = ap (λ b. (sum_by first_choices c.args.parts.now) * (2 * b)) same_budget in
     omega (arith, most, end_most, same_most, joined.long, c.node_of.ensures.cheap)
 
 pub returns-in_err-root-clause-refused : goal.returns-in_err-root-clause-refused
@@ -171,10 +185,13 @@ returns-in_err-root-clause-refused g c =
     let same_budget : budget (lower c.as_slice-wide.result.now) ≡ budget (lower (united_shapes (map shape_of c.args.parts.now))) = ap (λ u. budget (lower u)) is in
     let over : take c.loop-part.part-index c.args.parts.now ≡ c.args.parts.now = take_all c.args.parts.now c.loop-part.part-index c.loop-part-test.false in
     let joined = subst (λ l. IsJoined c.args.store.now c.loop-part.store (lower c.as_slice-wide.result.now) l c.loop-part.pairs) over c.loop-part.invariant.joined in
-    let end_most = loop_end (length c.loop-part.pairs) (sum_by first_choices c.args.parts.now) (budget (lower c.as_slice-wide.result.now)) c.args.steps.now.taken c.loop-part.steps.taken joined.long c.loop-part.invariant.cost in
-    let same_most : (sum_by first_choices c.args.parts.now) * (2 * (budget (lower c.as_slice-wide.result.now))) ≡ (sum_by first_choices c.args.parts.now) * (2 * budget (lower (united_shapes (map shape_of c.args.parts.now)))) = ap (λ b. (sum_by first_choices c.args.parts.now) * (2 * b)) same_budget in
+    let end_most = loop_end (length c.loop-part.pairs) (sum_by first_choices c.args.parts.now) (budget
+    (lower c.as_slice-wide.result.now)) c.args.steps.now.taken c.loop-part.steps.taken joined.long c.loop-part.invariant.cost in
+    let same_most : (sum_by first_choices c.args.parts.now) * (2 * (budget (lower c.as_slice-wide.result.now))) ≡ (sum_by first_choices c.args.parts.now) * (2 * budget (lower
+    (united_shapes (map shape_of c.args.parts.now)))) = ap (λ b. (sum_by first_choices c.args.parts.now) * (2 * b)) same_budget in
     passed_on _ c.from_residual-in_err-root.result c.in_err-root.field-0.0 c.from_residual-in_err-root.ensures
-    (GivesUp-within c.args.steps.now c.loop-part.steps c.node_of.new.steps (length c.loop-part.pairs) (2 * words (united_shapes (map shape_of c.args.parts.now)) * 2 ^ (length (united_shapes (map shape_of c.args.parts.now)) + 1)) _ c.loop-part.invariant.limit
+    (GivesUp-within c.args.steps.now c.loop-part.steps c.node_of.new.steps (length c.loop-part.pairs) (2 * words (united_shapes (map shape_of c.args.parts.now)) * 2 ^ (length
+    (united_shapes (map shape_of c.args.parts.now)) + 1)) _ c.loop-part.invariant.limit
     (omega (arith, most, end_most, same_most, joined.long)) (refused_gives_up _ _ _ _ _ _ c.in_err-root.ensures.adds))
 
 pub returns-clause-steps : goal.returns-clause-steps
@@ -186,8 +203,10 @@ returns-clause-steps g c =
     let same_budget : budget (lower c.as_slice-wide.result.now) ≡ budget (lower (united_shapes (map shape_of c.args.parts.now))) = ap (λ u. budget (lower u)) is in
     let over : take c.loop-part.part-index c.args.parts.now ≡ c.args.parts.now = take_all c.args.parts.now c.loop-part.part-index c.loop-part-test.false in
     let joined = subst (λ l. IsJoined c.args.store.now c.loop-part.store (lower c.as_slice-wide.result.now) l c.loop-part.pairs) over c.loop-part.invariant.joined in
-    let end_most = loop_end (length c.loop-part.pairs) (sum_by first_choices c.args.parts.now) (budget (lower c.as_slice-wide.result.now)) c.args.steps.now.taken c.loop-part.steps.taken joined.long c.loop-part.invariant.cost in
-    let same_most : (sum_by first_choices c.args.parts.now) * (2 * (budget (lower c.as_slice-wide.result.now))) ≡ (sum_by first_choices c.args.parts.now) * (2 * budget (lower (united_shapes (map shape_of c.args.parts.now)))) = ap (λ b. (sum_by first_choices c.args.parts.now) * (2 * b)) same_budget in
+    let end_most = loop_end (length c.loop-part.pairs) (sum_by first_choices c.args.parts.now) (budget
+    (lower c.as_slice-wide.result.now)) c.args.steps.now.taken c.loop-part.steps.taken joined.long c.loop-part.invariant.cost in
+    let same_most : (sum_by first_choices c.args.parts.now) * (2 * (budget (lower c.as_slice-wide.result.now))) ≡ (sum_by first_choices c.args.parts.now) * (2 * budget (lower
+    (united_shapes (map shape_of c.args.parts.now)))) = ap (λ b. (sum_by first_choices c.args.parts.now) * (2 * b)) same_budget in
     omega (arith, most, end_most, same_most, joined.long, c.node_of.ensures.cheap)
 
 pub returns-clause-united : goal.returns-clause-united
@@ -202,6 +221,8 @@ returns-clause-united g c =
     record {
       shape = c.in_ok-shape.ensures.ok;
       fits = joined_root c.args.store.now c.loop-part.store c.node_of.new.self c.node_of.ensures.keeps c.in_ok-shape.shape.items c.args.parts.now c.loop-part.pairs c.in_ok-root.root
-          (united_levels c.args.store.now n c.args.parts.now c.in_ok-shape.shape.items c.requires.levels.1 c.requires.some c.requires.fits levels c.in_ok-shape.ensures.ok) (omega (arith, joined.long, some)) (ap first_number c.in_ok-shape.ensures.ok ∙ parts_first n c.args.parts.now levels) whole c.in_ok-root.ensures.adds.here;
-      each = joined_part c.args.store.now c.loop-part.store c.node_of.new.self c.node_of.ensures.keeps c.args.parts.now c.loop-part.pairs (record { root = c.in_ok-root.root; shape = c.in_ok-shape.shape }) whole c.in_ok-root.ensures.adds.here;
+          (united_levels c.args.store.now n c.args.parts.now c.in_ok-shape.shape.items c.requires.levels.1 c.requires.some c.requires.fits levels c.in_ok-shape.ensures.ok) (omega
+          (arith, joined.long, some)) (ap first_number c.in_ok-shape.ensures.ok ∙ parts_first n c.args.parts.now levels) whole c.in_ok-root.ensures.adds.here;
+      each = joined_part c.args.store.now c.loop-part.store c.node_of.new.self c.node_of.ensures.keeps c.args.parts.now c.loop-part.pairs
+          (record { root = c.in_ok-root.root; shape = c.in_ok-shape.shape }) whole c.in_ok-root.ensures.adds.here;
     }

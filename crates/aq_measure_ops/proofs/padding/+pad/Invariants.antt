@@ -25,5 +25,6 @@ invariant-pad_runs-loop-index g l = record {
   memo : IsPadMemo l.store l.to (memo_at l.memo);
   done : (q : ℕ) → IsTrue (is_done (memo_at l.fn.memo) q) → IsTrue (is_done (memo_at l.memo) q);
   cost : PaysOwed (HoldPairs l.fn.store (drop (l.depth + 1) l.from) l.id) (drop (l.depth + 1) l.to) (memo_at l.fn.memo) (memo_at l.memo) l.fn.steps l.steps;
-  made : IsMade (Padded l.fn.store (drop l.depth l.from) ((get_or l.from l.depth 0 + l.more) ∷ drop (l.depth + 1) l.to) l.id) l.store (drop (l.depth + 1) l.to) (runs_at l.fn.store l.id) (get_or l.from l.depth 0) l.more l.index l.fn.pairs l.pairs;
+  made : IsMade (Padded l.fn.store (drop l.depth l.from) ((get_or l.from l.depth 0 + l.more) ∷ drop (l.depth + 1) l.to) l.id) l.store (drop (l.depth + 1) l.to)
+      (runs_at l.fn.store l.id) (get_or l.from l.depth 0) l.more l.index l.fn.pairs l.pairs;
 }

@@ -36,7 +36,8 @@ returns-clause-padded g c =
     record {
       shape = same;
       fits = subst (λ u. HasShape c.pad_at.new.store u c.in_ok-root.root) (sym same) image.shaped;
-      words = padded_root c.args.store.now c.pad_at.new.store c.as_slice-from.result.now c.args.lsta.now.shape.items c.args.shape.now c.args.lsta.now.root c.in_ok-root.root c.as_slice-from.ensures.value image;
+      words = padded_root c.args.store.now c.pad_at.new.store c.as_slice-from.result.now c.args.lsta.now.shape.items c.args.shape.now c.args.lsta.now.root c.in_ok-root.root
+          c.as_slice-from.ensures.value image;
     }
 
 pub returns-in_err-root-clause-steps : goal.returns-in_err-root-clause-steps
@@ -44,7 +45,8 @@ returns-in_err-root-clause-steps g c =
     let fits = subst (λ s. HasShape c.args.store.now s c.args.lsta.now.root) (sym c.as_slice-from.ensures.value) c.requires.fits in
     let wider = subst (λ s. IsWider s c.args.shape.now) (sym c.as_slice-from.ensures.value) c.requires.wider in
     let most = budget_steps c.args.shape.now (wider-some c.as_slice-from.result.now c.args.shape.now wider (positive c.args.store.now c.as_slice-from.result.now c.args.lsta.now.root fits)) in
-    let r = root_bound c.args.store.now (is_done (memo_at c.new-memo.result)) (λ i. ap is_some (c.new-memo.ensures i)) c.as_slice-from.result.now c.args.shape.now c.args.lsta.now.root wider fits in
+    let r = root_bound c.args.store.now (is_done (memo_at c.new-memo.result)) (λ i. ap is_some (c.new-memo.ensures i)) c.as_slice-from.result.now c.args.shape.now
+    c.args.lsta.now.root wider fits in
     let h = c.pad_at.ensures.cheap r.0 r.1 in
     omega (arith, most, h, r.2)
 
@@ -53,7 +55,8 @@ returns-in_default-clause-steps g c =
     let fits = subst (λ s. HasShape c.args.store.now s c.args.lsta.now.root) (sym c.as_slice-from.ensures.value) c.requires.fits in
     let wider = subst (λ s. IsWider s c.args.shape.now) (sym c.as_slice-from.ensures.value) c.requires.wider in
     let most = budget_steps c.args.shape.now (wider-some c.as_slice-from.result.now c.args.shape.now wider (positive c.args.store.now c.as_slice-from.result.now c.args.lsta.now.root fits)) in
-    let r = root_bound c.args.store.now (is_done (memo_at c.new-memo.result)) (λ i. ap is_some (c.new-memo.ensures i)) c.as_slice-from.result.now c.args.shape.now c.args.lsta.now.root wider fits in
+    let r = root_bound c.args.store.now (is_done (memo_at c.new-memo.result)) (λ i. ap is_some (c.new-memo.ensures i)) c.as_slice-from.result.now c.args.shape.now
+    c.args.lsta.now.root wider fits in
     let h = c.pad_at.ensures.cheap r.0 r.1 in
     omega (arith, most, h, r.2)
 
@@ -62,7 +65,8 @@ returns-clause-steps g c =
     let fits = subst (λ s. HasShape c.args.store.now s c.args.lsta.now.root) (sym c.as_slice-from.ensures.value) c.requires.fits in
     let wider = subst (λ s. IsWider s c.args.shape.now) (sym c.as_slice-from.ensures.value) c.requires.wider in
     let most = budget_steps c.args.shape.now (wider-some c.as_slice-from.result.now c.args.shape.now wider (positive c.args.store.now c.as_slice-from.result.now c.args.lsta.now.root fits)) in
-    let r = root_bound c.args.store.now (is_done (memo_at c.new-memo.result)) (λ i. ap is_some (c.new-memo.ensures i)) c.as_slice-from.result.now c.args.shape.now c.args.lsta.now.root wider fits in
+    let r = root_bound c.args.store.now (is_done (memo_at c.new-memo.result)) (λ i. ap is_some (c.new-memo.ensures i)) c.as_slice-from.result.now c.args.shape.now
+    c.args.lsta.now.root wider fits in
     let h = c.pad_at.ensures.cheap r.0 r.1 in
     omega (arith, most, h, r.2)
 
@@ -71,6 +75,8 @@ returns-in_err-root-clause-refused g c =
     let fits = subst (λ s. HasShape c.args.store.now s c.args.lsta.now.root) (sym c.as_slice-from.ensures.value) c.requires.fits in
     let wider = subst (λ s. IsWider s c.args.shape.now) (sym c.as_slice-from.ensures.value) c.requires.wider in
     let most = budget_steps c.args.shape.now (wider-some c.as_slice-from.result.now c.args.shape.now wider (positive c.args.store.now c.as_slice-from.result.now c.args.lsta.now.root fits)) in
-    let r = root_bound c.args.store.now (is_done (memo_at c.new-memo.result)) (λ i. ap is_some (c.new-memo.ensures i)) c.as_slice-from.result.now c.args.shape.now c.args.lsta.now.root wider fits in
+    let r = root_bound c.args.store.now (is_done (memo_at c.new-memo.result)) (λ i. ap is_some (c.new-memo.ensures i)) c.as_slice-from.result.now c.args.shape.now
+    c.args.lsta.now.root wider fits in
     passed_on _ c.from_residual.result c.in_err-root.field-0.0 c.from_residual.ensures
-    (GivesUp-within c.args.steps.now c.args.steps.now c.pad_at.new.steps (owed (prices_of c.args.shape.now) (is_done (memo_at c.new-memo.result)) r.0) (2 * words c.args.shape.now * 2 ^ (length c.args.shape.now + 1)) _ refl (omega (arith, most, r.2)) (c.in_err-root.ensures.refused r.0 r.1))
+    (GivesUp-within c.args.steps.now c.args.steps.now c.pad_at.new.steps (owed (prices_of c.args.shape.now) (is_done (memo_at c.new-memo.result)) r.0)
+    (2 * words c.args.shape.now * 2 ^ (length c.args.shape.now + 1)) _ refl (omega (arith, most, r.2)) (c.in_err-root.ensures.refused r.0 r.1))

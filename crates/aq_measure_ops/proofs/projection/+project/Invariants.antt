@@ -24,7 +24,8 @@ invariant-project_at-loop-index g l = record {
   memo : IsMemo g.L.Label.parts l.qubit l.outcome l.store l.shape (memo_at l.memo);
   done : (q : ℕ) → IsTrue (is_done (memo_at l.fn.memo) q) → IsTrue (is_done (memo_at l.memo) q);
   cost : (levels : List (List ℕ)) → HoldPlace l.fn.store (drop l.depth l.shape) l.id levels
-      → l.steps.taken + owed (prices_of (drop (l.depth + 1) l.shape)) (is_done (memo_at l.memo)) (rest_of levels) ≤ l.fn.steps.taken + owed (prices_of (drop (l.depth + 1) l.shape)) (is_done (memo_at l.fn.memo)) (rest_of levels);
+      → l.steps.taken + owed (prices_of (drop (l.depth + 1) l.shape)) (is_done (memo_at l.memo)) (rest_of levels) ≤ l.fn.steps.taken + owed (prices_of (drop
+      (l.depth + 1) l.shape)) (is_done (memo_at l.fn.memo)) (rest_of levels);
   count : length l.pairs ≡ before (runs_at l.fn.store l.id) l.index;
   each : MeanPairs (of_place (Projects g.L.Label.parts (length l.shape) l.qubit l.outcome) l.fn.store l.id) l.store (drop (l.depth + 1) l.shape) l.pairs;
 }

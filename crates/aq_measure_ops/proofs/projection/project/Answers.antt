@@ -35,55 +35,68 @@ returns-clause-projected g c =
     record {
       shape = same ∙ c.as_slice-shape.ensures.value;
       fits = subst (λ u. HasShape c.project_at.new.store u c.in_ok-root.root) (sym same) image.shaped;
-      words = projected g.L.Label.parts c.args.outcome c.args.store.now c.blank_from.new.store c.project_at.new.store c.blank_from.ensures.keeps c.as_slice-shape.result.now c.args.lsta.now.shape.items c.args.qubit c.args.lsta.now.root c.in_ok-root.root c.as_slice-shape.ensures.value s image;
+      words = projected g.L.Label.parts c.args.outcome c.args.store.now c.blank_from.new.store c.project_at.new.store c.blank_from.ensures.keeps c.as_slice-shape.result.now
+          c.args.lsta.now.shape.items c.args.qubit c.args.lsta.now.root c.in_ok-root.root c.as_slice-shape.ensures.value s image;
     }
 
 pub returns-in_err-root-clause-steps : goal.returns-in_err-root-clause-steps
 returns-in_err-root-clause-steps g c =
     let fits = subst (λ s. HasShape c.args.store.now s c.args.lsta.now.root) (sym c.as_slice-shape.ensures.value) c.requires.fits in
-    let most = copy_steps c.as_slice-shape.result.now c.args.lsta.now.shape.items c.as_slice-shape.ensures.value (positive c.args.store.now c.as_slice-shape.result.now c.args.lsta.now.root fits) (c.args.qubit + 1) in
+    let most = copy_steps c.as_slice-shape.result.now c.args.lsta.now.shape.items c.as_slice-shape.ensures.value
+    (positive c.args.store.now c.as_slice-shape.result.now c.args.lsta.now.root fits) (c.args.qubit + 1) in
     let here = HasShape-Extends c.args.store.now c.blank_from.new.store c.blank_from.ensures.keeps c.as_slice-shape.result.now c.args.lsta.now.root fits in
-    let r = root_bound c.blank_from.new.store (is_done (memo_at c.new-memo.result)) (λ i. ap is_some (c.new-memo.ensures i)) c.as_slice-shape.result.now c.as_slice-shape.result.now c.args.lsta.now.root (wider_refl c.as_slice-shape.result.now) here in
+    let r = root_bound c.blank_from.new.store (is_done (memo_at c.new-memo.result)) (λ i. ap is_some
+    (c.new-memo.ensures i)) c.as_slice-shape.result.now c.as_slice-shape.result.now c.args.lsta.now.root (wider_refl c.as_slice-shape.result.now) here in
     let h = c.project_at.ensures.cheap r.0 r.1 in
     omega (arith, most, c.blank_from.ensures.steps, h, r.2)
 
 pub returns-in_default-clause-steps : goal.returns-in_default-clause-steps
 returns-in_default-clause-steps g c =
     let fits = subst (λ s. HasShape c.args.store.now s c.args.lsta.now.root) (sym c.as_slice-shape.ensures.value) c.requires.fits in
-    let most = copy_steps c.as_slice-shape.result.now c.args.lsta.now.shape.items c.as_slice-shape.ensures.value (positive c.args.store.now c.as_slice-shape.result.now c.args.lsta.now.root fits) (c.args.qubit + 1) in
+    let most = copy_steps c.as_slice-shape.result.now c.args.lsta.now.shape.items c.as_slice-shape.ensures.value
+    (positive c.args.store.now c.as_slice-shape.result.now c.args.lsta.now.root fits) (c.args.qubit + 1) in
     let here = HasShape-Extends c.args.store.now c.blank_from.new.store c.blank_from.ensures.keeps c.as_slice-shape.result.now c.args.lsta.now.root fits in
-    let r = root_bound c.blank_from.new.store (is_done (memo_at c.new-memo.result)) (λ i. ap is_some (c.new-memo.ensures i)) c.as_slice-shape.result.now c.as_slice-shape.result.now c.args.lsta.now.root (wider_refl c.as_slice-shape.result.now) here in
+    let r = root_bound c.blank_from.new.store (is_done (memo_at c.new-memo.result)) (λ i. ap is_some
+    (c.new-memo.ensures i)) c.as_slice-shape.result.now c.as_slice-shape.result.now c.args.lsta.now.root (wider_refl c.as_slice-shape.result.now) here in
     let h = c.project_at.ensures.cheap r.0 r.1 in
     omega (arith, most, c.blank_from.ensures.steps, h, r.2)
 
 pub returns-clause-steps : goal.returns-clause-steps
 returns-clause-steps g c =
     let fits = subst (λ s. HasShape c.args.store.now s c.args.lsta.now.root) (sym c.as_slice-shape.ensures.value) c.requires.fits in
-    let most = copy_steps c.as_slice-shape.result.now c.args.lsta.now.shape.items c.as_slice-shape.ensures.value (positive c.args.store.now c.as_slice-shape.result.now c.args.lsta.now.root fits) (c.args.qubit + 1) in
+    let most = copy_steps c.as_slice-shape.result.now c.args.lsta.now.shape.items c.as_slice-shape.ensures.value
+    (positive c.args.store.now c.as_slice-shape.result.now c.args.lsta.now.root fits) (c.args.qubit + 1) in
     let here = HasShape-Extends c.args.store.now c.blank_from.new.store c.blank_from.ensures.keeps c.as_slice-shape.result.now c.args.lsta.now.root fits in
-    let r = root_bound c.blank_from.new.store (is_done (memo_at c.new-memo.result)) (λ i. ap is_some (c.new-memo.ensures i)) c.as_slice-shape.result.now c.as_slice-shape.result.now c.args.lsta.now.root (wider_refl c.as_slice-shape.result.now) here in
+    let r = root_bound c.blank_from.new.store (is_done (memo_at c.new-memo.result)) (λ i. ap is_some
+    (c.new-memo.ensures i)) c.as_slice-shape.result.now c.as_slice-shape.result.now c.args.lsta.now.root (wider_refl c.as_slice-shape.result.now) here in
     let h = c.project_at.ensures.cheap r.0 r.1 in
     omega (arith, most, c.blank_from.ensures.steps, h, r.2)
 
 pub returns-in_err-zero-clause-steps : goal.returns-in_err-zero-clause-steps
 returns-in_err-zero-clause-steps g c =
     let fits = subst (λ s. HasShape c.args.store.now s c.args.lsta.now.root) (sym c.as_slice-shape.ensures.value) c.requires.fits in
-    let most = copy_steps c.as_slice-shape.result.now c.args.lsta.now.shape.items c.as_slice-shape.ensures.value (positive c.args.store.now c.as_slice-shape.result.now c.args.lsta.now.root fits) (c.args.qubit + 1) in
+    let most = copy_steps c.as_slice-shape.result.now c.args.lsta.now.shape.items c.as_slice-shape.ensures.value
+    (positive c.args.store.now c.as_slice-shape.result.now c.args.lsta.now.root fits) (c.args.qubit + 1) in
     omega (arith, most, c.blank_from.ensures.steps)
 
 pub returns-in_err-zero-clause-refused : goal.returns-in_err-zero-clause-refused
 returns-in_err-zero-clause-refused g c =
     let fits = subst (λ s. HasShape c.args.store.now s c.args.lsta.now.root) (sym c.as_slice-shape.ensures.value) c.requires.fits in
-    let most = copy_steps c.as_slice-shape.result.now c.args.lsta.now.shape.items c.as_slice-shape.ensures.value (positive c.args.store.now c.as_slice-shape.result.now c.args.lsta.now.root fits) (c.args.qubit + 1) in
+    let most = copy_steps c.as_slice-shape.result.now c.args.lsta.now.shape.items c.as_slice-shape.ensures.value
+    (positive c.args.store.now c.as_slice-shape.result.now c.args.lsta.now.root fits) (c.args.qubit + 1) in
     passed_on _ c.from_residual.result c.in_err-zero.field-0.0 c.from_residual.ensures
-    (GivesUp-within c.args.steps.now c.args.steps.now c.blank_from.new.steps (1 + total (drop (c.args.qubit + 1) c.as_slice-shape.result.now)) (2 * words c.args.lsta.now.shape.items * 2 ^ (length c.args.lsta.now.shape.items + 1)) _ refl (omega (arith, most)) c.in_err-zero.ensures.refused)
+    (GivesUp-within c.args.steps.now c.args.steps.now c.blank_from.new.steps (1 + total (drop (c.args.qubit + 1) c.as_slice-shape.result.now))
+    (2 * words c.args.lsta.now.shape.items * 2 ^ (length c.args.lsta.now.shape.items + 1)) _ refl (omega (arith, most)) c.in_err-zero.ensures.refused)
 
 pub returns-in_err-root-clause-refused : goal.returns-in_err-root-clause-refused
 returns-in_err-root-clause-refused g c =
     let fits = subst (λ s. HasShape c.args.store.now s c.args.lsta.now.root) (sym c.as_slice-shape.ensures.value) c.requires.fits in
-    let most = copy_steps c.as_slice-shape.result.now c.args.lsta.now.shape.items c.as_slice-shape.ensures.value (positive c.args.store.now c.as_slice-shape.result.now c.args.lsta.now.root fits) (c.args.qubit + 1) in
+    let most = copy_steps c.as_slice-shape.result.now c.args.lsta.now.shape.items c.as_slice-shape.ensures.value
+    (positive c.args.store.now c.as_slice-shape.result.now c.args.lsta.now.root fits) (c.args.qubit + 1) in
     let here = HasShape-Extends c.args.store.now c.blank_from.new.store c.blank_from.ensures.keeps c.as_slice-shape.result.now c.args.lsta.now.root fits in
-    let r = root_bound c.blank_from.new.store (is_done (memo_at c.new-memo.result)) (λ i. ap is_some (c.new-memo.ensures i)) c.as_slice-shape.result.now c.as_slice-shape.result.now c.args.lsta.now.root (wider_refl c.as_slice-shape.result.now) here in
+    let r = root_bound c.blank_from.new.store (is_done (memo_at c.new-memo.result)) (λ i. ap is_some
+    (c.new-memo.ensures i)) c.as_slice-shape.result.now c.as_slice-shape.result.now c.args.lsta.now.root (wider_refl c.as_slice-shape.result.now) here in
     passed_on _ c.from_residual-in_err-root.result c.in_err-root.field-0.0 c.from_residual-in_err-root.ensures
-    (GivesUp-within c.args.steps.now c.blank_from.new.steps c.project_at.new.steps (owed (prices_of c.as_slice-shape.result.now) (is_done (memo_at c.new-memo.result)) r.0) (2 * words c.args.lsta.now.shape.items * 2 ^ (length c.args.lsta.now.shape.items + 1)) _ c.blank_from.ensures.limit (omega (arith, most, c.blank_from.ensures.steps, r.2))
+    (GivesUp-within c.args.steps.now c.blank_from.new.steps c.project_at.new.steps (owed (prices_of c.as_slice-shape.result.now) (is_done (memo_at c.new-memo.result)) r.0)
+    (2 * words c.args.lsta.now.shape.items * 2 ^ (length c.args.lsta.now.shape.items + 1)) _ c.blank_from.ensures.limit (omega (arith, most, c.blank_from.ensures.steps, r.2))
     (c.in_err-root.ensures.refused r.0 r.1))

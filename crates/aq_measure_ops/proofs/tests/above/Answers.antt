@@ -10,8 +10,10 @@ use Rattle.aq_measure_ops.proofs.tests.above.Goals as goal
 
 each_more : (P : ℕ → Type 0) (p q : List (ℕ × ℕ)) (n x y : ℕ) → EachPair P p → P x → P y → q ≡ p ++ copies n (x, y) → EachPair P q
 each_more P p q n x y m hx hy is = record {
-  left = λ c u at. elim (slice_get-append_cases p (copies n (x, y)) c u (ap (λ l. slice_get l c) (sym is) ∙ at)) [ inl h ↦ m.left c u h | inr h ↦ subst {A = ℕ × ℕ} (λ v. P v.0) (slice_get-copies n (c - length p) (x, y) u h.1) hx ];
-  right = λ c u at. elim (slice_get-append_cases p (copies n (x, y)) c u (ap (λ l. slice_get l c) (sym is) ∙ at)) [ inl h ↦ m.right c u h | inr h ↦ subst {A = ℕ × ℕ} (λ v. P v.1) (slice_get-copies n (c - length p) (x, y) u h.1) hy ];
+  left = λ c u at. elim (slice_get-append_cases p (copies n (x, y)) c u (ap (λ l. slice_get l c) (sym is)
+      ∙ at)) [ inl h ↦ m.left c u h | inr h ↦ subst {A = ℕ × ℕ} (λ v. P v.0) (slice_get-copies n (c - length p) (x, y) u h.1) hx ];
+  right = λ c u at. elim (slice_get-append_cases p (copies n (x, y)) c u (ap (λ l. slice_get l c) (sym is)
+      ∙ at)) [ inl h ↦ m.right c u h | inr h ↦ subst {A = ℕ × ℕ} (λ v. P v.1) (slice_get-copies n (c - length p) (x, y) u h.1) hy ];
 }
 
 none_meet : (P : ℕ → Type 0) (p : List (ℕ × ℕ)) → p ≡ [] → EachPair P p
@@ -38,7 +40,8 @@ node_of-requires-clause-heights c =
     let second = subst (λ u. HasShape c.args.store.now u c.args.second.now.root) (sym c.requires.same) c.requires.second in (
       length s,
       EachPair-map _ _ c.push-3.new.self (shape_height c.args.store.now s)
-          (all_meet (HasShape c.args.store.now s) c.args.count c.args.first.now.root c.args.second.now.root c.new-pairs.result c.push.new.self c.push-2.new.self c.push-3.new.self c.new-pairs.ensures c.in-Ok.ensures c.in-Ok-push.ensures c.in-Ok-push-2.ensures c.requires.first second),
+          (all_meet (HasShape c.args.store.now s) c.args.count c.args.first.now.root c.args.second.now.root c.new-pairs.result c.push.new.self c.push-2.new.self c.push-3.new.self
+          c.new-pairs.ensures c.in-Ok.ensures c.in-Ok-push.ensures c.in-Ok-push-2.ensures c.requires.first second),
     )
 
 pub returns-clause-made : goal.returns-clause-made
@@ -46,13 +49,22 @@ unfolding HasShape
 returns-clause-made c =
     let s = c.args.first.now.shape.items in
     let second = subst (λ u. HasShape c.args.store.now u c.args.second.now.root) (sym c.requires.same) c.requires.second in
-    let is : c.extend_from_slice.new.self.items ≡ (c.args.count + 2) ∷ s = c.in-Ok-extend_from_slice.ensures.items ∙ ap₂ (λ l r. l ++ r) (c.in-Ok-push-3.ensures.items ∙ ap (λ l. l ++ (c.args.count + 2) ∷ []) c.new-shape.ensures.items) c.as_slice.ensures.value in
-    let long : length c.push-3.new.self ≡ c.args.count + 2 = omega (arith, ap length c.new-pairs.ensures, more _ _ _ _ c.in-Ok.ensures, more _ _ _ _ c.in-Ok-push.ensures, more _ _ _ _ c.in-Ok-push-2.ensures) in
+    let is : c.extend_from_slice.new.self.items ≡ (c.args.count + 2) ∷ s = c.in-Ok-extend_from_slice.ensures.items ∙ ap₂ (λ l r. l ++ r) (c.in-Ok-push-3.ensures.items
+    ∙ ap (λ l. l ++ (c.args.count + 2) ∷ []) c.new-shape.ensures.items) c.as_slice.ensures.value in
+    let long : length c.push-3.new.self ≡ c.args.count + 2 = omega (
+      arith,
+      ap length c.new-pairs.ensures,
+      more _ _ _ _ c.in-Ok.ensures,
+      more _ _ _ _ c.in-Ok-push.ensures,
+      more _ _
+          _ _ c.in-Ok-push-2.ensures,
+    ) in
     let whole : HasShape c.node_of.new.self ((c.args.count + 2) ∷ s) c.in_ok-root.root = (
       c.push-3.new.self,
       record { here = c.in_ok-root.ensures.adds.here; some = omega (arith, long) },
       long,
       EachPair-map _ _ c.push-3.new.self (HasShape-Extends c.args.store.now c.node_of.new.self c.node_of.ensures.keeps s)
-          (all_meet (HasShape c.args.store.now s) c.args.count c.args.first.now.root c.args.second.now.root c.new-pairs.result c.push.new.self c.push-2.new.self c.push-3.new.self c.new-pairs.ensures c.in-Ok.ensures c.in-Ok-push.ensures c.in-Ok-push-2.ensures c.requires.first second),
+          (all_meet (HasShape c.args.store.now s) c.args.count c.args.first.now.root c.args.second.now.root c.new-pairs.result c.push.new.self c.push-2.new.self c.push-3.new.self
+          c.new-pairs.ensures c.in-Ok.ensures c.in-Ok-push.ensures c.in-Ok-push-2.ensures c.requires.first second),
     ) in
     subst (λ u. HasShape c.node_of.new.self u c.in_ok-root.root) (sym is) whole

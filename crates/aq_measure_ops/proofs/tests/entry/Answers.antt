@@ -22,10 +22,12 @@ loop-level-preserved c =
     let below = drop (c.loop-level.level + 1) c.args.lsta.now.shape.items in
     let o = opened c.args.store.now (get_or c.args.lsta.now.shape.items c.loop-level.level 0) below c.loop-level.id
     (subst (λ u. HasShape c.args.store.now u c.loop-level.id) (split_shape c.args.lsta.now.shape.items c.loop-level.level lt) c.loop-level.invariant) in
-    side_meets (HasShape c.args.store.now below) _ c.side-id.result c.pair.result.0 c.pair.result.1 c.side-id.ensures (o.3.left _ c.pair.result c.pair.ensures) (o.3.right _ c.pair.result c.pair.ensures)
+    side_meets (HasShape c.args.store.now below) _ c.side-id.result c.pair.result.0 c.pair.result.1 c.side-id.ensures (o.3.left _ c.pair.result c.pair.ensures)
+    (o.3.right _ c.pair.result c.pair.ensures)
 
 pub label-requires : goal.label-requires
 unfolding HasShape
 label-requires c =
-    let whole : HasShape c.args.store.now [] c.loop-level.id = subst (λ u. HasShape c.args.store.now u c.loop-level.id) (drop_of_length-le c.args.lsta.now.shape.items (omega (arith, c.loop-level-test.false, c.len-levels.ensures))) c.loop-level.invariant in
+    let whole : HasShape c.args.store.now [] c.loop-level.id = subst (λ u. HasShape c.args.store.now u c.loop-level.id) (drop_of_length-le c.args.lsta.now.shape.items (omega
+    (arith, c.loop-level-test.false, c.len-levels.ensures))) c.loop-level.invariant in
     whole

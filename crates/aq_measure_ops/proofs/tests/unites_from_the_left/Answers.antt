@@ -27,10 +27,12 @@ three_levels n x y z a b d = record { each = λ k part at. by k part at }
     by (suc (suc (suc k))) part at = cc
 
 pub union-requires-clause-left : goal.union-requires-clause-left
-union-requires-clause-left c = HasShape-Extends c.drawn.new.store c.drawn-3.new.store (Extends-trans _ _ _ c.drawn-2.ensures.keeps c.drawn-3.ensures.keeps) c.in_ok-first.first.shape.items c.in_ok-first.first.root c.in_ok-first.ensures.made
+union-requires-clause-left c = HasShape-Extends c.drawn.new.store c.drawn-3.new.store (Extends-trans _ _ _ c.drawn-2.ensures.keeps c.drawn-3.ensures.keeps)
+    c.in_ok-first.first.shape.items c.in_ok-first.first.root c.in_ok-first.ensures.made
 
 pub union-requires-clause-right : goal.union-requires-clause-right
-union-requires-clause-right c = HasShape-Extends c.drawn-2.new.store c.drawn-3.new.store c.drawn-3.ensures.keeps c.in_ok-second.second.shape.items c.in_ok-second.second.root c.in_ok-second.ensures.made
+union-requires-clause-right c = HasShape-Extends c.drawn-2.new.store c.drawn-3.new.store c.drawn-3.ensures.keeps c.in_ok-second.second.shape.items c.in_ok-second.second.root
+    c.in_ok-second.ensures.made
 
 pub union-requires-clause-same : goal.union-requires-clause-same
 union-requires-clause-same c =
@@ -50,8 +52,10 @@ pub union_of-requires-clause-fits : goal.union_of-requires-clause-fits
 union_of-requires-clause-fits c =
     let later = Extends-trans _ _ _ c.union.ensures.keeps c.union-2.ensures.keeps in
     three_fit c.union-2.new.store c.in_ok-first.first c.in_ok-second.second c.in_ok-third.third
-    (HasShape-Extends c.drawn.new.store c.union-2.new.store (Extends-trans _ _ _ c.drawn-2.ensures.keeps (Extends-trans _ _ _ c.drawn-3.ensures.keeps later)) c.in_ok-first.first.shape.items c.in_ok-first.first.root c.in_ok-first.ensures.made)
-    (HasShape-Extends c.drawn-2.new.store c.union-2.new.store (Extends-trans _ _ _ c.drawn-3.ensures.keeps later) c.in_ok-second.second.shape.items c.in_ok-second.second.root c.in_ok-second.ensures.made)
+    (HasShape-Extends c.drawn.new.store c.union-2.new.store (Extends-trans _ _ _ c.drawn-2.ensures.keeps
+    (Extends-trans _ _ _ c.drawn-3.ensures.keeps later)) c.in_ok-first.first.shape.items c.in_ok-first.first.root c.in_ok-first.ensures.made)
+    (HasShape-Extends c.drawn-2.new.store c.union-2.new.store (Extends-trans _ _ _ c.drawn-3.ensures.keeps later) c.in_ok-second.second.shape.items c.in_ok-second.second.root
+    c.in_ok-second.ensures.made)
     (HasShape-Extends c.drawn-3.new.store c.union-2.new.store later c.in_ok-third.third.shape.items c.in_ok-third.third.root c.in_ok-third.ensures.made)
 
 pub union_of-requires-clause-levels : goal.union_of-requires-clause-levels

@@ -1,0 +1,2 @@
+mod UnfitLaws
+mod PlayLaws
