@@ -245,7 +245,7 @@ case("an empty name", ["check", "", "S"], {"S": BELL_SETS}, "read fault: \n", 5)
 case("a name with a blank", ["check", "my file", "S"], {"my file": BELL, "S": BELL_SETS}, VERIFIED, 0)
 case("one file twice", ["check", "P", "P"], {"P": BELL}, sets_fault(1, 11, "BadByte"), 3)
 case("the program's faults come before the sets are read", ["check", "P", "S"], {"P": ""}, fault(1, 1, "NoQubits"), 3)
-case("the program is unbuilt before the sets are read", ["check", "P", "S"], {"P": "qubit q; reset q;"}, PROGRAM_UNBUILT, 3)
+case("the program is unbuilt before the sets are read", ["check", "P", "S"], {"P": "@assert a\nqubit q;"}, PROGRAM_UNBUILT, 3)
 case("the program is refused before the sets are read", ["check", "P", "S"], {"P": "qubit[0] q;"}, "refused: program 1:10: EmptyRegister\n", 3)
 case("a long program is refused before the sets are read", ["check", "P", "S"], {"P": " " * (MOST_PROGRAM + 1)}, PROGRAM_TOO_LONG, 3)
 
@@ -256,7 +256,7 @@ checked("a program too long", padded(BELL, MOST_PROGRAM + 1), BELL_SETS, PROGRAM
 checked("too long comes before what the text says", padded("no program", MOST_PROGRAM + 1), BELL_SETS, PROGRAM_TOO_LONG, 3)
 verified("sets at their longest", BELL, padded(BELL_SETS, MOST_SETS))
 checked("sets too long", BELL, padded(BELL_SETS, MOST_SETS + 1), SETS_TOO_LONG, 3)
-checked("long sets come behind the program", "qubit q; reset q;", padded(BELL_SETS, MOST_SETS + 1), PROGRAM_UNBUILT, 3)
+checked("long sets come behind the program", "@assert a\nqubit q;", padded(BELL_SETS, MOST_SETS + 1), PROGRAM_UNBUILT, 3)
 verified("as many calls as there may be", "qubit[1] q;" + "x q[0];" * MOST_CALLS, claims("|0>", "|0>"))
 checked("one call too many", "qubit[1] q;" + "x q[0];" * (MOST_CALLS + 1), claims("|0>", "|1>"), fault(1, 700012, "TooManyStatements"), 3)
 
@@ -327,9 +327,6 @@ for name, program, line in [
     ("an unknown gate", "qubit[2] q; hh q[0];", fault(1, 13, "UnknownGate")),
     ("an angle that isn't taken", "qubit q; rx(pi/4) q;", fault(1, 13, "AngleForm")),
     ("an assertion", "qubit[2] q;\n@assert bell\nh q[0];", PROGRAM_UNBUILT),
-    ("a measurement", "qubit[2] q; measure q[0];", PROGRAM_UNBUILT),
-    ("a reset", "qubit[2] q; reset q[0];", PROGRAM_UNBUILT),
-    ("a branch", "qubit[2] q; bit c; if (c) x q;", PROGRAM_UNBUILT),
     ("a loop", "qubit[2] q; bit c;\n@invariant one\nwhile (c) { x q; }", PROGRAM_UNBUILT),
 ]:
     checked("program: " + name, program, NOTHING_SETS, line, 3)

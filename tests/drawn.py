@@ -2,6 +2,9 @@
 
 import random
 
+import language
+import plain
+import set_language
 from language import ANGLED, OPERANDS
 
 SIGNS = (" + ", " - ")
@@ -206,3 +209,119 @@ def drawn_pair(seed):
     if draw.randrange(6) == 0:
         sets = spoiled(draw, sets)
     return program.encode(), sets.encode()
+
+
+# ---- programs that measure, reset and branch
+
+MOST_OUTCOMES = 5
+TESTS = ("%s", "!%s", "%s == 0", "%s == 1", "%s == true", "%s == false", "%s == 00")
+
+
+def drawn_bit(draw, bits):
+    return "b" if bits is None else "b[%d]" % draw.randrange(bits)
+
+
+def drawn_measurement(draw, registers, bits):
+    spot = drawn_spot(draw, registers, True)
+    bit = drawn_bit(draw, bits)
+    if "[" not in spot and dict(registers)[spot] is not None:
+        bit = "b"
+        if dict(registers)[spot] != bits:
+            return "measure %s;" % spot
+    return draw.choice(("%s = measure %s;" % (bit, spot), "measure %s -> %s;" % (spot, bit), "measure %s;" % spot))
+
+
+def drawn_branch(draw, registers, bits, depth):
+    test = draw.choice(TESTS) % drawn_bit(draw, bits)
+    bodies = [[drawn_step(draw, registers, bits, depth + 1) for _ in range(draw.randrange(3))] for _ in range(2)]
+    text = "if (%s) { %s }" % (test, " ".join(bodies[0]))
+    return text + (" else { %s }" % " ".join(bodies[1]) if draw.randrange(2) else "")
+
+
+def drawn_step(draw, registers, bits, depth=0):
+    """A gate call, a measurement, a reset or a branch."""
+    way = draw.randrange(10)
+    if way < 5:
+        return drawn_call(draw, registers) if way else "h %s;" % draw.choice(registers)[0]
+    if way < 7:
+        return drawn_measurement(draw, registers, bits)
+    if way == 7:
+        return "reset %s;" % drawn_spot(draw, registers, draw.randrange(4) == 0)
+    return drawn_branch(draw, registers, bits, depth) if depth < 3 else "barrier;"
+
+
+def drawn_dynamic_program(draw):
+    """A program's text, its number of qubits, and how its bits are declared."""
+    while True:
+        registers = [pair for pair in drawn_registers(draw) if pair[1] != 3] or [("q", 2)]
+        bits = draw.choice((None, 1, 2, 3))
+        lines = [declared(draw, "qubit", "qreg", name, size) for name, size in registers]
+        lines.append(declared(draw, "bit", "creg", "b", bits))
+        lines += [drawn_step(draw, registers, bits) for _ in range(draw.randrange(2, 10))]
+        text = "\n".join(lines) + "\n"
+        if 0 < outcomes_of(text) <= MOST_OUTCOMES:
+            return text, sum(size or 1 for name, size in registers), bits
+
+
+def outcomes_of(text):
+    """How many measurements and resets a program comes to."""
+    return sum(statement[0] in ("measure", "reset") for statement in plain.inside(language.read(text.encode())[2]))
+
+
+def bracket_of(vector, qubits):
+    terms = ["(%d,%d,%d,%d)/sqrt2^%d|%s>" % (quad + (power, format(x, "0%db" % qubits))) for x, (quad, power) in enumerate(vector) if any(quad)]
+    return "[%s]" % " + ".join(terms)
+
+
+def worlds_from(program, sets, name):
+    """The worlds of a program from the vectors of a set."""
+    qubits, registers, body = language.read(program.encode())
+    start = plain.vectors(set_language.read(sets.encode())[1][name.encode()])[0]
+    return plain.worlds_of(plain.count_bits(registers), qubits, body, [(start, [])])
+
+
+def cases_of_ends(draw, worlds, qubits, bits):
+    """Cases in which the ends of the worlds are, each under the bits that it has; now and then one is wrong or left out."""
+    names = ["b"] if bits is None else ["b[%d]" % place for place in range(bits)]
+    found = []
+    for world in worlds:
+        asked = " and ".join("%s == %d" % pair for pair in zip(names, world.bits) if draw.randrange(10))
+        for end in world.ends:
+            if end is not None and not plain.is_zero(end):
+                found.append(bracket_of(end, qubits) + (" when " + asked if asked else ""))
+    found = sorted(set(found))
+    draw.shuffle(found)
+    if found and draw.randrange(3) == 0:
+        found.pop()
+    if found and draw.randrange(6) == 0:
+        found[0] = found[0].replace(" == 0", " == 1", 1)
+    return found
+
+
+def drawn_dynamic_case(draw, qubits, bits):
+    text = drawn_set(draw, qubits, {})
+    if draw.randrange(3) == 0:
+        text += " when " + " and ".join("%s == %d" % (drawn_bit(draw, bits), draw.randrange(2)) for _ in range(draw.randrange(1, 3)))
+    return text
+
+
+def drawn_outcomes(draw, worlds):
+    """Outcomes for a replay: mostly such as can happen, or other digits, seldom with something else."""
+    alive = [world.outcomes for world in worlds if not all(end is not None and plain.is_zero(end) for end in world.ends)]
+    digits = draw.choice(alive) if alive and draw.randrange(4) else [draw.randrange(2) for _ in range(draw.randrange(MOST_OUTCOMES))]
+    return plain.digits(digits).strip("-") + draw.choice(("",) * 20 + ("2",))
+
+
+def drawn_dynamic(seed):
+    """A program's text, a set file's, whose claims have conditions, and the outcomes for a replay from the set `start`."""
+    draw = random.Random(seed)
+    program, qubits, bits = drawn_dynamic_program(draw)
+    start = draw.choice((drawn_bracket(draw, qubits),) * 4 + (drawn_set(draw, qubits, {}),))
+    sets = "set start = %s;\nset more = %s;\n" % (start, drawn_set(draw, qubits, {}))
+    cases = [name + (" when %s == 0" % drawn_bit(draw, bits) if draw.randrange(2) else "") for name in draw.choice((("start",), ("start", "more")))]
+    worlds = [worlds_from(program, sets, name) for name in ("start", "more")]
+    after = cases_of_ends(draw, [world for found in worlds[: len(cases)] for world in found], qubits, bits)
+    if not after or len(after) > 12 or draw.randrange(4) == 0:
+        after = [drawn_dynamic_case(draw, qubits, bits) for _ in range(draw.randrange(1, 4))]
+    sets += "claim pre = %s;\nclaim post = %s;\n" % (", ".join(cases), ",\n  ".join(after))
+    return program.encode(), sets.encode(), drawn_outcomes(draw, worlds[0])

@@ -1,7 +1,14 @@
 """A plain slow reader of programs, written from docs/LANGUAGE.md alone: tokens, grammar, and what the names mean.
 
-`read` gives a program of gates, or raises `Refused` with the first fault, or `Unbuilt`. It is a recursive descent over
-tokens that are found by one regular expression each; places are counted anew for each token.
+`read` gives a program, or raises `Refused` with the first fault. It is a recursive descent over tokens that are found by one
+regular expression each; places are counted anew for each token. A program's body is a list of statements, of these forms:
+
+    ("gate", name, eighths, controls, target)    the angle in eighths of a turn
+    ("measure", qubit, bit)                      the bit is None where the outcome is kept nowhere
+    ("reset", qubit)
+    ("if", bit, value, yes, no)
+    ("while", bit, value, body)
+    ("assert",)
 """
 
 import re
@@ -36,10 +43,6 @@ class Refused(Exception):
 
     def __init__(self, at, name, word=""):
         self.line = "%d:%d: %s" % (at + (name,)) + (" " + word if word else "")
-
-
-class Unbuilt(Exception):
-    """The program has statements that aren't built."""
 
 
 # ---- tokens
@@ -250,21 +253,23 @@ class Reader(TokenReader):
         return (at, sign, factor, divisor)
 
     def test(self):
+        """A spot, and the value that is asked for."""
         if self.maybe(b"!"):
-            return self.spot()
-        spot = self.spot()
+            return self.spot(), False
+        spot, value = self.spot(), True
         if self.maybe(b"=="):
             token = self.token()
             if token.kind == "number" and int(token.text) > 1:
                 self.refuse()
-            self.take("number", b"true", b"false")
-        return spot
+            text = self.take("number", b"true", b"false").text
+            value = int(text) == 1 if token.kind == "number" else text == b"true"
+        return spot, value
 
     def head(self):
         self.sign(b"(")
-        spot = self.test()
+        test = self.test()
         self.sign(b")")
-        return spot
+        return test
 
     def body(self, depth):
         if depth > MOST_DEPTH:
@@ -294,34 +299,35 @@ class Meaning:
     def __init__(self):
         self.names = {}
         self.counts = {True: 0, False: 0}
-        self.gates = []
         self.statements = 0
-        self.others = 0
 
-    def program(self, body, end):
-        for statement in body:
-            self.statement(statement, False)
+    def program(self, tree, end):
+        body = self.body(tree, False)
         if self.counts[True] == 0:
             raise Refused(end, "NoQubits")
-        if self.others:
-            raise Unbuilt
         bits = {name: (size, numbers) for name, (quantum, size, numbers) in self.names.items() if not quantum}
-        return (self.counts[True], bits, self.gates)
+        return (self.counts[True], bits, body)
+
+    def body(self, tree, inside):
+        found = []
+        for made in tree:
+            found += self.statement(made, inside)
+        return found
 
     def statement(self, made, inside):
-        asserts = self.notes(made)
+        """What a statement of the text comes to, with the assertions before it."""
+        found = [("assert",)] * self.notes(made)
         kind = made["kind"]
         if inside and kind in ("include", "declare"):
             raise Refused(made["at"], "DeclaredInBlock")
-        gates, others = getattr(self, "of_" + kind)(made) or ([], 0)
-        self.statements += asserts + len(gates) + others
-        self.others += asserts + others
+        found += getattr(self, "of_" + kind)(made) or []
+        self.statements += len(found)
         if self.statements > MOST_STATEMENTS:
             raise Refused(made["at"], "TooManyStatements")
-        self.gates += gates
-        for body in made.get("bodies", []):
-            for inner in body:
-                self.statement(inner, True)
+        if "bodies" in made:
+            bodies = [self.body(tree, True) for tree in made["bodies"]]
+            found[-1] += tuple(bodies + [[]] if kind == "if" and len(bodies) == 1 else bodies)
+        return found
 
     def notes(self, made):
         """How many assertions stand before the statement."""
@@ -344,7 +350,7 @@ class Meaning:
         return asserts
 
     def of_include(self, made):
-        return None
+        """It comes to no statement, and neither does a barrier."""
 
     def of_declare(self, made):
         name, size, quantum = made["name"], made["size"], made["quantum"]
@@ -359,7 +365,7 @@ class Meaning:
         self.names[name.text] = (quantum, size, list(range(first, self.counts[quantum])))
         if "source" in made:
             return self.of_measure({"spots": [("bit", (name, None)), ("qubit", made["source"])]})
-        return None
+        return []
 
     def look(self, spot, quantum):
         """The qubits or bits of a spot, and whether it is a register."""
@@ -374,22 +380,26 @@ class Meaning:
         return ([known[2][index]], False)
 
     def of_measure(self, made):
-        found = [len(self.look(spot, kind == "qubit")[0]) for kind, spot in made["spots"]]
-        if found[0] != found[-1]:
+        found = {kind: self.look(spot, kind == "qubit")[0] for kind, spot in made["spots"]}
+        bits = found.get("bit", [None] * len(found["qubit"]))
+        if len(found["qubit"]) != len(bits):
             raise Refused(made["spots"][-1][1][0].at, "SizeDiffers")
-        return ([], found[0])
+        return [("measure", qubit, bit) for qubit, bit in zip(found["qubit"], bits)]
 
     def of_reset(self, made):
-        return ([], len(self.look(made["spots"][0], True)[0]))
+        return [("reset", qubit) for qubit in self.look(made["spots"][0], True)[0]]
 
     def of_barrier(self, made):
         for spot in made["spots"]:
             self.look(spot, True)
 
     def of_if(self, made):
-        if len(self.look(made["test"], False)[0]) > 1:
-            raise Refused(made["test"][0].at, "SizeDiffers")
-        return ([], 1)
+        """The statement without its bodies."""
+        spot, value = made["test"]
+        bits = self.look(spot, False)[0]
+        if len(bits) > 1:
+            raise Refused(spot[0].at, "SizeDiffers")
+        return [(made["kind"], bits[0], value)]
 
     def of_while(self, made):
         if not made["invariant"]:
@@ -417,7 +427,7 @@ class Meaning:
                 if operands[place] in operands[:place]:
                     raise Refused(spot[0].at, "RepeatedQubit")
             gates += instance(name, eighths, operands)
-        return (gates, 0)
+        return gates
 
     def eighths(self, name, angle):
         at, sign, factor, divisor = angle
@@ -432,16 +442,16 @@ class Meaning:
 
 
 def instance(name, eighths, operands):
-    """The gates of one instance: a name, its angle in eighths of a turn, the controls and the target."""
+    """The gates of one instance."""
     if name == "swap":
         a, b = operands
-        return [("x", 0, [a], b), ("x", 0, [b], a), ("x", 0, [a], b)]
+        return [("gate", "x", 0, [a], b), ("gate", "x", 0, [b], a), ("gate", "x", 0, [a], b)]
     if name == "cswap":
         c, a, b = operands
-        return [("x", 0, [b], a), ("x", 0, [c, a], b), ("x", 0, [b], a)]
-    return [(name.lstrip("cC").lower() if CONTROLS[name] else name, eighths, operands[:-1], operands[-1])]
+        return [("gate", "x", 0, [b], a), ("gate", "x", 0, [c, a], b), ("gate", "x", 0, [b], a)]
+    return [("gate", name.lstrip("cC").lower() if CONTROLS[name] else name, eighths, operands[:-1], operands[-1])]
 
 
 def read(text):
-    """The number of qubits, the registers of bits with their sizes and bits, and the gates in order."""
+    """The number of qubits, the registers of bits with their sizes and bits, and the body."""
     return Meaning().program(*Reader(tokens(text)).program())

@@ -1,11 +1,14 @@
-"""A plain slow program that does what `autoq check` is to do, written from the definitions alone.
+"""A plain slow program that does what `autoq check` and `autoq replay` are to do, written from the definitions alone.
 
 It shares nothing with the checker but the definitions: numbers are Python's, of any size; texts are cut by regular
-expressions; a gate is computed entry by entry. `answer` gives what the program is to print for two texts, and its status.
-Programs are read by language.py and set files by set_language.py, both whole.
+expressions; a gate is computed entry by entry, and a world holds one vector for each state of its case. `answers` gives what
+may be printed for two texts, each with its status, and `replayed` what is printed for a replay. Programs are read by
+language.py and set files by set_language.py, both whole.
 """
 
 import sys
+from collections import namedtuple
+from functools import reduce
 
 import language
 import set_language
@@ -57,19 +60,17 @@ def matrix(name, eighths):
 
 
 class Wide(Exception):
-    """A number doesn't fit."""
+    """A sum or a quotient doesn't fit."""
+
+
+def in_range(coefficients):
+    return all(abs(c) < LIMIT for c in coefficients)
 
 
 def fitting(coefficients):
-    if any(abs(c) >= LIMIT for c in coefficients):
+    if not in_range(coefficients):
         raise Wide
     return coefficients
-
-
-def fitting_power(power):
-    if power > MOST_POWER:
-        raise Wide
-    return power
 
 
 def times_root(quad):
@@ -104,18 +105,31 @@ def plus(left, right):
     return lowest(fitting(tuple(x + y for x, y in pairs)), power)
 
 
-def times(left, right):
+def rows_of_product(left, right):
+    """For each coefficient of a product the four numbers that it is the sum of, in order."""
     (a, b, c, d), (e, f, g, h) = left[0], right[0]
-    rows = (
+    return (
         (a * e, -b * h, -c * g, -d * f),
         (a * f, b * e, -c * h, -d * g),
         (a * g, b * f, c * e, -d * h),
         (a * h, b * g, c * f, d * e),
     )
-    for row in rows:
-        fitting(row)
-        fitting(tuple(sum(row[: count + 1]) for count in range(4)))
-    return lowest(tuple(sum(row) for row in rows), fitting_power(left[1] + right[1]))
+
+
+def times(left, right):
+    """The product, whether it fits or not."""
+    if left == ZERO or right == ZERO:
+        return ZERO
+    return lowest(tuple(sum(row) for row in rows_of_product(left, right)), left[1] + right[1])
+
+
+def product_fits(left, right):
+    if left == ZERO or right == ZERO:
+        return True
+    rows = rows_of_product(left, right)
+    numbers = [number for row in rows for number in row]
+    sums = [sum(row[: count + 1]) for row in rows for count in range(4)]
+    return in_range(numbers) and in_range(sums) and left[1] + right[1] <= MOST_POWER
 
 
 def turned(amplitude, count):
@@ -131,12 +145,13 @@ def term(entry, amplitude):
     amplitude = turned(amplitude, entry[0])
     for _ in range(entry[1]):
         amplitude = lowest(amplitude[0], amplitude[1] + 1)
-        fitting_power(amplitude[1])
+        if amplitude[1] > MOST_POWER:
+            raise Wide
     return amplitude
 
 
-def after(vector, qubits, gate):
-    name, eighths, controls, target = gate
+def after(vector, qubits, name, eighths, controls, target):
+    """The vector after a gate."""
     rows = matrix(name, eighths)
     weight = 1 << (qubits - 1 - target)
     new = list(vector)
@@ -145,6 +160,20 @@ def after(vector, qubits, gate):
             row = rows[1 if x & weight else 0]
             new[x] = plus(term(row[0], vector[x & ~weight]), term(row[1], vector[x | weight]))
     return new
+
+
+def projected(vector, qubits, qubit, outcome):
+    """The amplitudes at the kets in which the qubit is the outcome, and zero elsewhere."""
+    shift = qubits - 1 - qubit
+    return [amplitude if (x >> shift) & 1 == outcome else ZERO for x, amplitude in enumerate(vector)]
+
+
+def flipped(vector, qubits, qubit):
+    return after(vector, qubits, "x", 0, [], qubit)
+
+
+def is_zero(vector):
+    return all(amplitude == ZERO for amplitude in vector)
 
 
 # ---- the vectors that an expression lists
@@ -158,34 +187,47 @@ def entries_of(qubits, amplitudes):
     return vector
 
 
-def tensors(left, right):
-    return [[times(a, b) for a in first for b in second] for first in left for second in right]
-
-
-def powers(base, number):
-    found = base
-    for _ in range(number - 1):
-        found = tensors(found, base)
-    return found
+def tensor(left, right):
+    """Two lists and whether all numbers in them fit, put together."""
+    found = [[times(a, b) for a in first for b in second] for first in left[0] for second in right[0]]
+    pairs = {(a, b) for first in left[0] for second in right[0] for a in set(first) for b in set(second)}
+    return found, left[1] and right[1] and all(product_fits(a, b) for a, b in pairs)
 
 
 def vectors(expr):
+    """The vectors that an expression lists, and whether each product in it fits."""
     kind, parts = expr["kind"], expr["parts"]
     if kind == "name":
         return vectors(expr["of"])
     if kind == "bracket":
         terms = [(int(ket.text[1:-1], 2), lowest(quad, roots)) for _, quad, roots, ket in expr["terms"]]
-        return [entries_of(expr["qubits"], terms)]
+        return [entries_of(expr["qubits"], terms)], True
     if kind == "all":
-        return [entries_of(expr["qubits"], [(place, ONE)]) for place in range(1 << expr["qubits"])]
+        return [entries_of(expr["qubits"], [(place, ONE)]) for place in range(1 << expr["qubits"])], True
     if kind == "power":
-        return powers(vectors(parts[0]), expr["number"])
+        base = vectors(parts[0])
+        return reduce(tensor, [base] * expr["number"])
     if kind == "tensor":
-        return tensors(vectors(parts[0]), vectors(parts[1]))
-    found = []
-    for part in united(expr):
-        found += vectors(part)
-    return found
+        return tensor(vectors(parts[0]), vectors(parts[1]))
+    found = [vectors(part) for part in united(expr)]
+    return [vector for listed, _ in found for vector in listed], all(fits for _, fits in found)
+
+
+def how_many(expr):
+    """How many vectors an expression lists."""
+    if "many" not in expr:
+        kind, parts = expr["kind"], expr["parts"]
+        if kind == "name":
+            expr["many"] = how_many(expr["of"])
+        elif kind == "power":
+            expr["many"] = how_many(parts[0]) ** expr["number"]
+        elif kind == "tensor":
+            expr["many"] = how_many(parts[0]) * how_many(parts[1])
+        elif kind == "union":
+            expr["many"] = sum(how_many(part) for part in united(expr))
+        else:
+            expr["many"] = 1 if kind == "bracket" else 2 ** expr["qubits"]
+    return expr["many"]
 
 
 def united(expr):
@@ -239,23 +281,37 @@ def product(numbers):
     return found
 
 
-def enough(qubits, statements, before, after):
-    """The steps that are enough for a program of gates. A case is an expression and its conditions, of bits and values."""
+def inside(body):
+    """All statements of a body, those in branches and loops too."""
+    for statement in body:
+        yield statement
+        if statement[0] in ("if", "while"):
+            for part in statement[3:]:
+                yield from inside(part)
+
+
+def enough(qubits, body, before, after):
+    """The steps that are enough. A case is an expression and its conditions, of bits and values."""
+    statements = list(inside(body))
+    decisions = sum(statement[0] in ("measure", "reset") for statement in statements)
+    bits = {statement[1] for statement in statements if statement[0] in ("if", "while")}
+    bits |= {bit for _, conditions in before + after for bit, _ in conditions}
     words = [sum(product(size(expr)[0]) for expr, _ in cases) for cases in (before, after)]
     weights = sum(size(expr)[1] * product(size(expr)[0]) for expr, _ in before + after)
-    bits = {bit for _, conditions in before + after for bit, _ in conditions}
     entries = 2 ** (qubits + 1)
-    return 8 * (2 ** len(bits) * words[0] * entries * (statements + 1 + words[1]) + entries * weights)
+    worlds = 2 ** (decisions + len(bits))
+    return 8 * (worlds * words[0] * entries * (len(statements) + 1 + words[1]) + entries * weights)
 
 
 # ---- claims
 
 
-class ClaimRefused(Exception):
-    """A claim that isn't there, or doesn't fit the program."""
+class TextRefused(Exception):
+    """A text is refused by this line."""
 
-    def __init__(self, claim, name):
-        self.line = "refused: claim %s: %s\n" % (claim, name)
+
+def refused_claim(claim, name):
+    return TextRefused("refused: claim %s: %s\n" % (claim, name))
 
 
 def bit_of(registers, name, index):
@@ -273,10 +329,10 @@ def bound(claim, cases, qubits, registers):
     found = []
     for expr, conditions in cases:
         if expr["qubits"] != qubits:
-            raise ClaimRefused(claim, "QubitsDiffer")
+            raise refused_claim(claim, "QubitsDiffer")
         bits = [(bit_of(registers, name, index), value) for name, index, value in conditions]
         if any(bit is None for bit, _ in bits):
-            raise ClaimRefused(claim, "BitUnknown")
+            raise refused_claim(claim, "BitUnknown")
         found.append((expr, bits))
     return found
 
@@ -285,102 +341,267 @@ def asked(claims, qubits, registers):
     """The cases of the precondition and of the postcondition."""
     for name in ("pre", "post"):
         if name.encode() not in claims:
-            raise ClaimRefused(name, "UnknownClaim")
+            raise refused_claim(name, "UnknownClaim")
     return [bound(name, claims[name.encode()], qubits, registers) for name in ("pre", "post")]
 
 
-def met(cases):
-    """The vectors of the cases that ask for no bit 1."""
-    return [vector for expr, bits in cases if not any(value for _, value in bits) for vector in vectors(expr)]
+def is_met(conditions, bits):
+    return all(bits[bit] == value for bit, value in conditions)
 
 
-def is_multiple(end, goal):
-    """Whether two nonzero vectors are one state: told by products with the entries at the pivot."""
-    places = [x for x in range(len(end)) if end[x] != ZERO or goal[x] != ZERO]
+def is_multiple(left, right):
+    """Whether a nonzero vector is one state with another: told by products with the entries at the pivot."""
+    places = [x for x in range(len(left)) if left[x] != ZERO or right[x] != ZERO]
     pivot = places[0]
     for x in places:
-        if (end[x] == ZERO) != (goal[x] == ZERO):
+        if (left[x] == ZERO) != (right[x] == ZERO):
             return False
-        if times(end[x], goal[pivot]) != times(end[pivot], goal[x]):
+        if times(left[x], right[pivot]) != times(left[pivot], right[x]):
             return False
     return True
+
+
+# ---- worlds
+
+# All runs of one case that have the same outcomes. There is an end for each state that the case lists; it is None where a
+# gate on the run didn't fit, since no end is known then.
+World = namedtuple("World", "states bits outcomes ends")
+
+
+def on_ends(world, play):
+    """The world with each end played on."""
+    ends = []
+    for end in world.ends:
+        try:
+            ends.append(None if end is None else play(end))
+        except Wide:
+            ends.append(None)
+    return world._replace(ends=ends)
+
+
+def with_outcome(world, qubits, qubit, outcome):
+    world = world._replace(outcomes=world.outcomes + [outcome])
+    return on_ends(world, lambda end: projected(end, qubits, qubit, outcome))
+
+
+def measured(world, qubits, qubit, bit, outcome):
+    world = with_outcome(world, qubits, qubit, outcome)
+    if bit is None:
+        return world
+    return world._replace(bits=world.bits[:bit] + [outcome] + world.bits[bit + 1 :])
+
+
+def reset(world, qubits, qubit, outcome):
+    world = with_outcome(world, qubits, qubit, outcome)
+    return on_ends(world, lambda end: flipped(end, qubits, qubit)) if outcome else world
+
+
+def spread(world, qubits, statement):
+    """What a statement makes of a world: several worlds where it takes an outcome, 0 before 1."""
+    kind, parts = statement[0], statement[1:]
+    if kind == "gate":
+        return [on_ends(world, lambda end: after(end, qubits, *parts))]
+    if kind == "measure":
+        return [measured(world, qubits, *parts, outcome) for outcome in (0, 1)]
+    if kind == "reset":
+        return [reset(world, qubits, *parts, outcome) for outcome in (0, 1)]
+    bit, value, yes, no = parts
+    return spread_all(world, qubits, yes if world.bits[bit] == value else no)
+
+
+def spread_all(world, qubits, body):
+    worlds = [world]
+    for statement in body:
+        worlds = [new for old in worlds for new in spread(old, qubits, statement)]
+    return worlds
+
+
+def worlds_of(bits, qubits, body, before):
+    """In order of the cases, and then of the outcomes. All bits are 0 at the start."""
+    worlds = []
+    for listed, conditions in before:
+        if is_met(conditions, [0] * bits):
+            worlds += spread_all(World(listed, [0] * bits, [], listed), qubits, body)
+    return worlds
+
+
+def escape(worlds, goal):
+    """The first world in which an end escapes the goal, with the first state that has such an end; or nothing. It raises Wide
+    where an end before that isn't known."""
+    for world in worlds:
+        goals = [vector for listed, conditions in goal if is_met(conditions, world.bits) for vector in listed]
+        for state, end in zip(world.states, world.ends):
+            if end is None:
+                raise Wide
+            if not is_zero(end) and not any(is_multiple(end, vector) for vector in goals):
+                return world, state, end
+    return None
+
+
+def has_wide_comparison(world, goal):
+    """An entry of some end times an entry of some goal for its bits doesn't fit."""
+    lefts = {entry for end in world.ends if end is not None for entry in end}
+    goals = [listed for listed, conditions in goal if is_met(conditions, world.bits)]
+    rights = {entry for listed in goals for vector in listed for entry in vector}
+    return not all(product_fits(left, right) for left in lefts for right in rights)
+
+
+# ---- what is printed
+
+
+def digits(bits):
+    return "".join(str(int(bit)) for bit in bits) or "-"
 
 
 def entries(label, qubits, vector):
     lines = ""
     for x, (quad, power) in enumerate(vector):
         if any(quad):
-            lines += "  %s |%s> (%d,%d,%d,%d)/%d\n" % ((label, format(x, "0%db" % qubits)) + quad + (power,))
+            lines += "%s |%s> (%d,%d,%d,%d)/%d\n" % ((label, format(x, "0%db" % qubits)) + quad + (power,))
     return lines
 
 
-def is_kept(end, goals):
-    """Whether an end is zero, or a nonzero multiple of a goal; a comparison that doesn't fit counts where no other tells."""
-    if not any(amplitude != ZERO for amplitude in end):
-        return True
-    wide = False
-    for goal in goals:
-        try:
-            if is_multiple(end, goal):
-                return True
-        except Wide:
-            wide = True
-    if wide:
-        raise Wide
-    return False
-
-
-def first_escape(qubits, gates, before, goal):
-    """The first state whose end is in no goal, and that end; or nothing."""
-    goals = met(goal)
-    for state in met(before):
-        end = state
-        for gate in gates:
-            end = after(end, qubits, gate)
-        if not is_kept(end, goals):
-            return (state, end)
-    return None
-
-
-def report(bits, qubits, gates, before, goal):
-    """What is printed for a program of gates between two claims, and the status."""
-    gave_up = "1 post: gave up %s\nverified 0, refuted 0, gave up 1\n"
-    if MOST_STEPS < enough(qubits, len(gates), before, goal):
-        return gave_up % "steps", 2
-    try:
-        escape = first_escape(qubits, gates, before, goal)
-    except Wide:
-        return gave_up % "width", 2
-    if escape is None:
-        return "1 post: verified\nverified 1, refuted 0, gave up 0\n", 0
-    digits = "0" * bits or "-"
+def refutation(bits, qubits, world, state, end):
     return (
-        "1 post: refuted\n  bits %s\n" % digits
-        + entries("state", qubits, escape[0])
-        + "  outcomes -\n  end bits %s\n" % digits
-        + entries("end", qubits, escape[1])
+        "1 post: refuted\n  bits %s\n" % digits([0] * bits)
+        + entries("  state", qubits, state)
+        + "  outcomes %s\n  end bits %s\n" % (digits(world.outcomes), digits(world.bits))
+        + entries("  end", qubits, end)
         + "verified 0, refuted 1, gave up 0\n"
-    ), 1
+    )
 
 
-def answer(program, sets):
-    """What is printed for two texts, and the status."""
-    if len(program) > MOST_PROGRAM:
-        return "refused: program: TooLong\n", 3
+def gave_up(why):
+    return "1 post: gave up %s\nverified 0, refuted 0, gave up 1\n" % why, 2
+
+
+def verdicts(bits, qubits, body, before, goal):
+    """What a judge may print. Too many steps come before all else. Where some number of the obligation doesn't fit, it may
+    give up for width; it needn't, where it knows better from numbers that fit."""
+    if MOST_STEPS < enough(qubits, body, before, goal):
+        return [gave_up("steps")]
+    lists = [[(vectors(expr), conditions) for expr, conditions in cases] for cases in (before, goal)]
+    is_wide = not all(fits for cases in lists for (_, fits), _ in cases)
+    before, goal = ([(listed, conditions) for (listed, _), conditions in cases] for cases in lists)
+    worlds = worlds_of(bits, qubits, body, before)
+    is_wide = is_wide or any(end is None for world in worlds for end in world.ends)
+    is_wide = is_wide or any(has_wide_comparison(world, goal) for world in worlds)
+    found = [gave_up("width")] if is_wide else []
     try:
-        qubits, registers, gates = language.read(program)
+        first = escape(worlds, goal)
+    except Wide:
+        return found
+    if first is None:
+        return found + [("1 post: verified\nverified 1, refuted 0, gave up 0\n", 0)]
+    return found + [(refutation(bits, qubits, *first), 1)]
+
+
+def read_program(text):
+    if len(text) > MOST_PROGRAM:
+        raise TextRefused("refused: program: TooLong\n")
+    try:
+        return language.read(text)
     except language.Refused as refused:
-        return "refused: program %s\n" % refused.line, 3
-    except language.Unbuilt:
-        return "refused: program: Unbuilt\n", 3
-    if len(sets) > MOST_SETS:
-        return "refused: sets: TooLong\n", 3
+        raise TextRefused("refused: program %s\n" % refused.line)
+
+
+def read_sets(text):
+    """The claims and the sets, each by name."""
+    if len(text) > MOST_SETS:
+        raise TextRefused("refused: sets: TooLong\n")
     try:
-        claims = set_language.read(sets)
+        return set_language.read(text)
     except set_language.Refused as refused:
-        return "refused: sets %s\n" % refused.line(sets), 3
+        raise TextRefused("refused: sets %s\n" % refused.line(text))
+
+
+def count_bits(registers):
+    return sum(len(bits) for _, bits in registers.values())
+
+
+def answers(program, sets):
+    """What may be printed by `check` for two texts, each with its status; there is one, but where numbers don't fit."""
     try:
+        qubits, registers, body = read_program(program)
+        if any(statement[0] in ("assert", "while") for statement in inside(body)):
+            raise TextRefused("refused: program: Unbuilt\n")
+        claims, _ = read_sets(sets)
         before, goal = asked(claims, qubits, registers)
-    except ClaimRefused as refused:
-        return refused.line, 3
-    return report(sum(len(bits) for _, bits in registers.values()), qubits, gates, before, goal)
+    except TextRefused as refused:
+        return [(str(refused), 3)]
+    return verdicts(count_bits(registers), qubits, body, before, goal)
+
+
+# ---- replay
+
+
+class ReplayRefused(Exception):
+    """The first cause for which a run isn't played to its end."""
+
+
+def replay(qubits, body, bits, vector, outcomes):
+    """The bits, the vector and the outcomes that are left, after the body was played."""
+    for statement in body:
+        kind, parts = statement[0], statement[1:]
+        if kind == "gate":
+            try:
+                vector = after(vector, qubits, *parts)
+            except Wide:
+                raise ReplayRefused("Wide")
+        elif kind in ("measure", "reset"):
+            if not outcomes:
+                raise ReplayRefused("ShortOutcomes")
+            outcome, outcomes = outcomes[0], outcomes[1:]
+            vector = projected(vector, qubits, parts[0], outcome)
+            if is_zero(vector):
+                raise ReplayRefused("Impossible")
+            if kind == "reset" and outcome:
+                vector = flipped(vector, qubits, parts[0])
+            if kind == "measure" and parts[1] is not None:
+                bits = bits[: parts[1]] + [outcome] + bits[parts[1] + 1 :]
+        elif kind == "if":
+            bit, value, yes, no = parts
+            bits, vector, outcomes = replay(qubits, yes if bits[bit] == value else no, bits, vector, outcomes)
+    return bits, vector, outcomes
+
+
+def one_vector(sets, name, qubits):
+    """The vector of a set, which is to be its only one."""
+    found = "refused: set %s: %%s\n" % name
+    if name.encode() not in sets:
+        raise TextRefused(found % "UnknownSet")
+    expr = sets[name.encode()]
+    if expr["qubits"] != qubits:
+        raise TextRefused(found % "QubitsDiffer")
+    if how_many(expr) != 1:
+        raise TextRefused(found % "NotOne")
+    listed, fits = vectors(expr)
+    if not fits:
+        raise TextRefused(found % "Wide")
+    return listed[0]
+
+
+def whole_replay(qubits, bits, body, vector, text):
+    """The bits and the vector at the end."""
+    if set(text) - set("01"):
+        raise ReplayRefused("BadOutcomes")
+    if any(statement[0] == "while" for statement in inside(body)):
+        raise ReplayRefused("NotLoopFree")
+    bits, vector, left = replay(qubits, body, [0] * bits, vector, [int(digit) for digit in text])
+    if left:
+        raise ReplayRefused("LongOutcomes")
+    return bits, vector
+
+
+def replayed(program, sets, name, outcomes=""):
+    """What is printed by `replay` for two texts, the name of a set and the outcomes, and the status."""
+    try:
+        qubits, registers, body = read_program(program)
+        _, named = read_sets(sets)
+        vector = one_vector(named, name, qubits)
+        bits, end = whole_replay(qubits, count_bits(registers), body, vector, outcomes)
+    except TextRefused as refused:
+        return str(refused), 3
+    except ReplayRefused as refused:
+        return "refused: replay: %s\n" % refused, 3
+    return "bits %s\n" % digits(bits) + entries("end", qubits, end), 0

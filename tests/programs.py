@@ -397,20 +397,16 @@ refused("NotTaken", "1:6", "x r; let a = b;", "let")
 
 # ---- statements that aren't built; the sets aren't read, and there are none
 
-unbuilt("a measurement", "qubit q; measure q;")
-unbuilt("a measurement into a bit", "qubit[1] q; bit c; c = measure q;")
-unbuilt("a measurement with an arrow", "qubit[2] q; bit[2] c; measure q -> c;")
-unbuilt("a measurement in a declaration", "qubit q; bit[1] c = measure q;")
-unbuilt("a reset", "qubit[2] q; reset q;")
-unbuilt("an if", "qubit q; bit[1] c; if (c) x q;")
-unbuilt("an if with an else", "qubit q; bit c; if (!c) { x q; } else if (c == 00) { } else y q;")
-unbuilt("an if without statements", "qubit q; bit[3] c; if (c[2] == true) { }")
 unbuilt("a while", "qubit q; bit c;\n@invariant a\nwhile (c == false) { x q; }")
 unbuilt("an assertion", "qubit q;\n@assert a // here\nx q;")
 unbuilt("an assertion of a reserved word", "qubit q;\n@assert if\nx q;")
 unbuilt("an assertion before a declaration", "@assert a\nqubit q;")
-unbuilt("bodies at their deepest", "qubit q; bit c; " + "if(c)" * 64 + "x q;")
-CASES.append(("programs: unbuilt before the sets", ["check", "P", "S"], {"P": "qubit q; reset q;", "S": "no sets"}, PROGRAM_UNBUILT, 3))
+unbuilt("a while at the deepest", "qubit q; bit c; " + "if(c)" * 63 + "\n@invariant a\nwhile (c) x q;")
+unbuilt("an assertion at the deepest", "qubit q; bit c; " + "if(c)" * 64 + "\n@assert a\nx q;")
+unbuilt("an assertion in an else", "qubit q; bit c; measure q -> c; if (c) reset q; else\n@assert a\nx q;")
+unbuilt("a while behind an if", "qubit q; bit c; if (c) { x q; }\n@invariant a\nwhile (c) { }")
+unbuilt("an assertion before nothing", "qubit q; bit c; if (c) {\n@assert a\nbarrier q; }")
+CASES.append(("programs: unbuilt before the sets", ["check", "P", "S"], {"P": "@assert a\nqubit q;", "S": "no sets"}, PROGRAM_UNBUILT, 3))
 
 # ---- examples/: the files as they lie there
 

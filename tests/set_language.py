@@ -1,7 +1,8 @@
 """A plain slow reader of set files, written from docs/SETS.md alone: tokens, grammar, and what the items mean.
 
-`read` gives the claims by name, or raises `Refused` with the first fault. An expression is a dictionary that holds its parts
-and its number of qubits; a claim is a list of cases, and a case an expression and its conditions.
+`read` gives the claims and the sets by name, or raises `Refused` with the first fault. A set is an expression, which is a
+dictionary that holds its parts and its number of qubits; a claim is a list of cases, and a case an expression and its
+conditions.
 """
 
 import re
@@ -224,7 +225,7 @@ class Meaning:
         self.nodes = 0
 
     def file(self, items):
-        """The claims by name."""
+        """The claims by name, and the sets by name."""
         for is_claim, name, cases in items:
             refuse_if(len(self.names) == MOST_NAMES, name.at, "TooManyNames")
             refuse_if(name.text in self.names, name.at, "TwiceNamed")
@@ -233,7 +234,8 @@ class Meaning:
             for at, expr, _ in cases:
                 refuse_if(expr["qubits"] != cases[0][1]["qubits"], at, "QubitCount")
             self.names[name.text] = (is_claim, [(expr, conditions) for _, expr, conditions in cases])
-        return {name: cases for name, (is_claim, cases) in self.names.items() if is_claim}
+        claims = {name: cases for name, (is_claim, cases) in self.names.items() if is_claim}
+        return claims, {name: cases[0][0] for name, (is_claim, cases) in self.names.items() if not is_claim}
 
     def count(self, at):
         refuse_if(self.nodes == MOST_NODES, at, "TooManyNodes")
@@ -289,5 +291,5 @@ class Meaning:
 
 
 def read(text):
-    """The claims by name; each has its cases, and each case an expression and its conditions."""
+    """The claims by name, each with its cases, each case an expression and its conditions; and the sets by name."""
     return Meaning().file(Reader(tokens(text)).file())
