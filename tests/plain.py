@@ -519,6 +519,15 @@ def count_bits(registers):
     return sum(len(bits) for _, bits in registers.values())
 
 
+def has_more_than_gates(program):
+    """Whether a program without a fault has a statement that isn't a gate."""
+    try:
+        _, _, body = read_program(program)
+    except TextRefused:
+        return False
+    return any(statement[0] != "gate" for statement in body)
+
+
 def answers(program, sets):
     """What may be printed by `check` for two texts, each with its status; there is one, but where numbers don't fit."""
     try:
