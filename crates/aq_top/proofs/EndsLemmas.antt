@@ -27,11 +27,11 @@ use Rattle.aq_report.specs.declared.verdict.Verdict.TheVariants as verdict
 use Rattle.aq_elab.proofs.TextsLaws.{one_program}
 use Rattle.aq_judge.specs.Bodies.{are_gates, gates_in}
 use Rattle.aq_judge.proofs.StmtLaws.{body_is}
-use Rattle.aq_top.specs.Check.{CheckWords, CheckCause, CheckEnd, GatesCause, IsReport, ReadsTask, verdict_status, post_report}
+use Rattle.aq_top.specs.Check.{CheckWords, CheckCause, CheckEnd, IsReport, ReadsTask, verdict_status, post_report}
 use Rattle.aq_top.specs.Clauses.{IsAnswer, IsReportOf, StatusSays, TellsTheRun, ToldIsCorrect}
 use Rattle.aq_top.specs.Commands.{Command, Check, Replay, RunEnd}
 use Rattle.aq_top.specs.Ends.{Ends, EndsAs, IsText, StoppedBy, refusal_status, status_of}
-use Rattle.aq_top.specs.Reads.{MayHold, ProgramCause}
+use Rattle.aq_top.specs.Reads.{MayHold}
 use Rattle.aq_top.specs.Replay.{ReplayWords, ReplayCause, ReplayEnd, IsReplay, ReadsStart, begins}
 use Rattle.aq_top.specs.Tasks.{Task, IsTask, claims_asked, enough_for, obligation_of, program_of}
 use Rattle.aq_top.specs.declared.status.Status.{Status}

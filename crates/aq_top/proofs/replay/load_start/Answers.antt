@@ -1,4 +1,4 @@
-use Rattle.std.proofs.Common.{◌≡◌, ℕ, List, Option, ap, sym, ◌∙◌, subst}
+use Rattle.std.proofs.Common.{ℕ, List, Option, subst}
 use Rattle.aq_world.specs.Held.{Held}
 use Rattle.aq_top.specs.Reads.{ReadFailedOf, ReadsSets}
 use Rattle.aq_top.specs.Replay.{asked_by, HasStateFault}

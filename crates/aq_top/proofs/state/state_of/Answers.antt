@@ -1,4 +1,4 @@
-use Rattle.std.proofs.Common.{◌≡◌, List, ap, sym, ◌∙◌}
+use Rattle.std.proofs.Common.{List, ap, ◌∙◌}
 use Rattle.aq_sets.specs.declared.sets.NamedSet.{NamedSet}
 use Rattle.aq_top.specs.Replay.{set_named}
 use Rattle.aq_top.proofs.StateLemmas.{set_there}
