@@ -440,83 +440,18 @@ fn replays(rt: HostRuntime) -> Result<(), Fail> {
 
 #[test]
 fn refusals_of_replays(rt: HostRuntime) -> Result<(), Fail> {
-    let alloc = rt.alloc();
-    let looped: &[u8] = b"qubit q; bit c;\n@invariant one\nwhile (c == 1) { x q; }";
-    let large: &[u8] = b"set zero = [170141183460469231731687303715884105727|0>] * [2|0>];";
-    let rows: [(&[u8], &[u8], &[&str], &[u8]); 13] = [
-        (MEASURED, ZERO, &[], b"refused: replay: ShortOutcomes\n"),
-        (
-            MEASURED,
-            ZERO,
-            &["--outcomes", "11"],
-            b"refused: replay: LongOutcomes\n",
-        ),
-        (
-            b"qubit q; bit c; c = measure q;",
-            b"set zero = [|0>];",
-            &["--outcomes", "1"],
-            b"refused: replay: Impossible\n",
-        ),
-        (
-            looped,
-            b"set zero = [|0>];",
-            &[],
-            b"refused: replay: NotLoopFree\n",
-        ),
-        (
-            looped,
-            b"set zero = [|0>];",
-            &["--outcomes", "012"],
-            b"refused: replay: BadOutcomes\n",
-        ),
-        (
-            b"qubit q; h q;",
-            b"set zero = [170141183460469231731687303715884105727|0> + |1>];",
-            &[],
-            b"refused: replay: Wide\n",
-        ),
-        (
-            b"qubit[2] q;",
-            large,
-            &["--outcomes", "-"],
-            b"refused: set zero: Wide\n",
-        ),
-        (
-            b"qubit[2] q;",
-            b"set zero = all 2;",
-            &["--outcomes", "-"],
-            b"refused: set zero: NotOne\n",
-        ),
-        (
-            b"qubit q;",
-            b"set zero = all 2;",
-            &[],
-            b"refused: set zero: QubitsDiffer\n",
-        ),
-        (
-            b"qubit q;",
-            b"claim zero = [|0>];",
-            &["--outcomes", "2"],
-            b"refused: set zero: UnknownSet\n",
-        ),
-        (b"qubit q;", b"set", &[], b"refused: sets 1:4: Unexpected\n"),
-        (b"qubit", b"set", &[], b"refused: program 1:6: Unexpected\n"),
-        (
-            b"qubit q; rx(pi/4) q;",
-            ZERO,
-            &["--outcomes", "2"],
-            b"refused: program 1:13: AngleForm\n",
-        ),
-    ];
-    for (row, (program, sets, more, wanted)) in rows.iter().enumerate() {
-        let mut words = Vec::from_slice(alloc, ["--state", "zero"].as_slice())?;
-        for word in more.iter() {
-            words.push(*word)?;
-        }
-        let (status, bytes) = replayed(alloc, program, sets, words.as_slice())?;
-        assert_eq!(rt; bytes.as_slice(), *wanted, "in row {row}");
-        assert_eq!(rt; status, Status::Refused, "in row {row}");
-    }
+    let (short, bytes) = replayed(rt.alloc(), MEASURED, ZERO, &["--state", "zero"])?;
+    assert_eq!(rt;
+        bytes.as_slice(),
+        b"refused: replay: ShortOutcomes\n".as_slice()
+    );
+    assert_eq!(rt; short, Status::Refused);
+    let (unknown, bytes) = replayed(rt.alloc(), MEASURED, ZERO, &["--state", "one"])?;
+    assert_eq!(rt;
+        bytes.as_slice(),
+        b"refused: set one: UnknownSet\n".as_slice()
+    );
+    assert_eq!(rt; unknown, Status::Refused);
     Ok(())
 }
 
