@@ -1,5 +1,5 @@
-//! Plain state vectors: what gates and measurements do to them, the vectors that an expression lists, and one run played by
-//! hand.
+//! Plain state vectors: what gates and measurements do to them, the vectors that an expression lists, and one run
+//! played by hand.
 #![tactic(auto)]
 
 mod apply;

@@ -241,8 +241,8 @@ pub fn print_summary<K: Sink>(
     )
 }
 
-/// Prints the end of a replayed run: the line `bits 01` with its bits, and a line `end |01> (1,0,0,-2)/3` for each entry
-/// of its vector that isn't zero. No bits are `-`.
+/// Prints the end of a replayed run: the line `bits 01` with its bits, and a line `end |01> (1,0,0,-2)/3` for each
+/// entry of its vector that isn't zero. No bits are `-`.
 ///
 /// `Failed` and `Memory` are the sink's own, and what was put is then a front of these lines.
 #[tactic(auto, unfolding(crate::specs::Texts::state_text))]

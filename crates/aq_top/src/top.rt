@@ -45,12 +45,12 @@ fn answer<S: Shelf, K: Sink>(alloc: Global, words: &[String], shelf: &mut S, out
 
 /// Does what the words after the program's name say, over the shelf's files, and writes the answer to the sink.
 ///
-/// The words are `check PROG SETS`, or `replay PROG SETS --state NAME` with or without `--outcomes TEXT` behind it; other
-/// words are answered by the usage text. The status says how it ended: see `Status`. `Memory` may come at any input, and where memory is wanting while an obligation is judged, that obligation
-/// is given up.
+/// The words are `check PROG SETS`, or `replay PROG SETS --state NAME` with or without `--outcomes TEXT` behind it;
+/// other words are answered by the usage text. The status says how it ended: see `Status`. `Memory` may come at any
+/// input, and where memory is wanting while an obligation is judged, that obligation is given up.
 pub fn run<S: Shelf, K: Sink>(alloc: Global, words: &[String], shelf: &mut S, out: &mut K) -> Status
-    // With Good, Refuted and GaveUp, a whole report was written, and its verdicts are justified; or a replay's end, which
-    // goes with Good.
+    // With Good, Refuted and GaveUp, a whole report was written, and its verdicts are justified; or a replay's end,
+    // which goes with Good.
     ensures report_is_justified { IsAnswer result → Reports (S.meaning.holds shelf.old)
         (command_asked (map string_bytes words.now)) (K.meaning.told out.old) (K.meaning.told out.new) result }
 

@@ -22,8 +22,8 @@ use aq_prog::{Gate, Guard};
 use sqlite_items::Items;
 use std::alloc::{AllocError, Global};
 
-/// What several runs have in common: the bits that are fixed at the start, the bits that are known now, the outcomes, and a
-/// vector for each that the case lists.
+/// What several runs have in common: the bits that are fixed at the start, the bits that are known now, the outcomes,
+/// and a vector for each that the case lists.
 #[derive(Debug, Drop)]
 pub struct PlainWorld {
     pub start: Items<Option<bool>>,
@@ -85,7 +85,8 @@ impl PlainWorld {
             vectors,
         })
     }
-    /// Takes an outcome of a measurement of the qubit, and stores it where a bit is named. Fails only for want of memory.
+    /// Takes an outcome of a measurement of the qubit, and stores it where a bit is named. Fails only for want of
+    /// memory.
     pub fn take_outcome(
         self,
         alloc: Global,
