@@ -60,6 +60,14 @@ class Copy:
             start_new_session=True,
         )
 
+    def start_slow(self):
+        """A build that takes a while and has read the sources."""
+        self.say("slow")
+        started = self.start(["check"])
+        while not os.path.exists(os.path.join(self.top, "read")):
+            time.sleep(0.05)
+        return started
+
     def run(self, words=("check",)):
         """The status, what was printed, and whether standard error says that something was built."""
         started = self.start(list(words))
@@ -119,10 +127,7 @@ def folder_of_program_taken(copy):
 
 
 def edit_during_build(copy):
-    copy.say("slow")
-    started = copy.start(["check"])
-    while not os.path.exists(os.path.join(copy.top, "read")):
-        time.sleep(0.05)
+    started = copy.start_slow()
     time.sleep(0.2)
     copy.say("two")
     started.communicate(timeout=60)
@@ -130,10 +135,7 @@ def edit_during_build(copy):
 
 
 def ended_build(copy):
-    copy.say("slow")
-    started = copy.start(["check"])
-    while not os.path.exists(os.path.join(copy.top, "read")):
-        time.sleep(0.05)
+    started = copy.start_slow()
     os.killpg(started.pid, signal.SIGTERM)
     started.communicate(timeout=60)
     return os.listdir(copy.temporary), []
