@@ -3,11 +3,13 @@
 //! `specs/Playing` says which world of the definitions one is.
 #![tactic(auto)]
 
+mod case;
 mod several;
 mod stop;
 mod vectors;
 mod world;
 
+pub use case::worlds_of_case;
 pub use several::{alive, assume, measure, play_gate, reset, split_world};
 pub use stop::Stop;
 pub use world::PlainWorld;
