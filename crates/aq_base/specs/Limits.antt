@@ -1,6 +1,6 @@
 -- The limits of programs, set files and judging, under the names that definitions use.
 use Rattle.std.specs.Prelude.{ℕ}
-use Rattle.aq_base.specs.declared.limits.TheConstants.{MOST_QUBITS, MOST_PLAIN_QUBITS, MOST_BITS, MOST_NESTED, MOST_STATEMENTS, MOST_ANGLE_FACTOR, MOST_NAMES, MOST_NODES, MOST_PROGRAM_BYTES, MOST_SETS_BYTES, MOST_STEPS}
+use Rattle.aq_base.specs.declared.limits.TheConstants.{MOST_QUBITS, MOST_PLAIN_QUBITS, MOST_BITS, MOST_NESTED, MOST_STATEMENTS, MOST_ANGLE_FACTOR, MOST_NAMES, MOST_NODES, MOST_PROGRAM_BYTES, MOST_SETS_BYTES, MOST_STEPS, MOST_STEPS_ASKED, MOST_OBLIGATIONS, MOST_FRAGMENT_STATEMENTS}
 
 -- qubits of a program, and of an expression of a set file
 abbrev pub most_qubits : ℕ
@@ -41,3 +41,15 @@ most_sets_bytes = MOST_SETS_BYTES
 -- steps of an obligation where nothing else is said
 abbrev pub most_steps : ℕ
 most_steps = MOST_STEPS
+
+-- steps of an obligation that may be asked for
+abbrev pub most_steps_asked : ℕ
+most_steps_asked = MOST_STEPS_ASKED
+
+-- obligations of a program
+abbrev pub most_obligations : ℕ
+most_obligations = MOST_OBLIGATIONS
+
+-- statements of the fragments of all obligations together, inner ones included
+abbrev pub most_fragment_statements : ℕ
+most_fragment_statements = MOST_FRAGMENT_STATEMENTS

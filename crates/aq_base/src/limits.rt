@@ -32,3 +32,12 @@ pub const MOST_SETS_BYTES: u64 = 4_194_304;
 
 /// How many steps an obligation may take where nothing else is said.
 pub const MOST_STEPS: u64 = 20_000_000;
+
+/// The most steps that may be asked for an obligation.
+pub const MOST_STEPS_ASKED: u64 = 1_000_000_000;
+
+/// The most obligations of a program.
+pub const MOST_OBLIGATIONS: u64 = 1_000;
+
+/// The most statements of the fragments of all obligations together, inner ones included.
+pub const MOST_FRAGMENT_STATEMENTS: u64 = 2_000_000;
