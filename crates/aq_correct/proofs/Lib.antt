@@ -1,4 +1,3 @@
-pub mod GatesOnlyProofs
 mod ZeroBits
 mod StmtLaws
 mod StoreLaws
@@ -15,8 +14,8 @@ pub mod RefuteLaws
 pub mod NoughtLaws
 pub mod OwingProofs
 pub mod ValidOwed
+pub mod ClaimedOwed
 mod TameLaws
 pub mod CorrectLaws
 pub mod CountLaws
-pub mod UncutProofs
 mod ExampleWorlds

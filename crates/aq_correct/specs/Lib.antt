@@ -1,4 +1,2 @@
 pub mod WorldLaws
 pub mod OwingLaws
-pub mod Uncut
-pub mod GatesOnly

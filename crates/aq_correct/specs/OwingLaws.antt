@@ -1,5 +1,5 @@
 -- The obligations of a program by their rules, and that a program is correct where they are true.
-use Rattle.std.specs.Prelude.{◌≡◌, ℕ, true, false, List, [], ◌∷◌, ◌++◌, All, Some, None, IfSome, ◌<◌}
+use Rattle.std.specs.Prelude.{◌≡◌, ℕ, true, false, List, [], ◌∷◌, ◌++◌, All, Contains, Some, None, IfSome, ◌<◌, ◌⊎◌}
 use Rattle.aq_ring.specs.Fractions.{Amplitude}
 use Rattle.aq_prog.specs.Programs.{IsValidStmt}
 use Rattle.aq_prog.specs.declared.stmt.Guard.{Guard}
@@ -9,7 +9,7 @@ use Rattle.aq_obligations.specs.Claims.{ClaimCase}
 use Rattle.aq_obligations.specs.Correct.{IsCorrect}
 use Rattle.aq_prog.specs.Cuts.{has_cut, AreUncut}
 use Rattle.aq_obligations.specs.Obligations.{IsTrueOf}
-use Rattle.aq_obligations.specs.Owing.{Here, Owed, Debt, opposite, fresh, further, owed, at_end, owes_all, obligations, obligation_of, annotated_by}
+use Rattle.aq_obligations.specs.Owing.{Here, Owed, Debt, opposite, fresh, further, owed, at_end, owes_all, claim_at, obligations, obligation_of, annotated_by}
 use Rattle.aq_obligations.specs.declared.kind.Kind.TheVariants as kinds
 
 -- What a list of statements owes, rule by rule. These are all lists, so the rules alone say what is owed.
@@ -41,6 +41,19 @@ pub record IsValidOwed {B : Type 0} (n m k : ℕ) (d : Owed B) : Type 0 where
 pub record OwesValid (B : Type 0) : Type 0 where
   pub valid : (n m k : ℕ) (claims : List (List B)) (pre post : List B) (body : List Stmt) → All (IsValidStmt n m k) body
       → All (IsValidOwed n m k) (obligations claims pre post body)
+
+-- the case is one of the claims'
+abbrev pub IsClaimed : {B : Type 0} → List (List B) → List B → List B → B → Type 0
+IsClaimed claims pre post c = Contains pre c ⊎ (Contains post c ⊎ ((k : ℕ) × Contains (claim_at claims k) c))
+
+-- each case of the assumption and of the goal is so
+pub record HasClaimedCases {B : Type 0} (P : B → Type 0) (d : Owed B) : Type 0 where
+  pub from : All P d.here.from
+  pub goal : All P d.goal
+
+-- The cases of the obligations are cases of the claims.
+pub record OwesClaimed (B : Type 0) : Type 0 where
+  pub cases : (claims : List (List B)) (pre post : List B) (body : List Stmt) → All (HasClaimedCases (IsClaimed claims pre post)) (obligations claims pre post body)
 
 -- Where every obligation is true, the program is correct: for all outcomes and all numbers of turns.
 pub record TrueThenCorrect (B : Type 0) : Type 0 where

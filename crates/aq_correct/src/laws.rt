@@ -1,8 +1,6 @@
 //! The laws of obligations, each the contract of a function that does nothing: to call it is to cite it.
-ghost use Rattle.aq_correct.specs.GatesOnly.{GatesOnlyLaws};
 ghost use Rattle.aq_obligations.specs.OwingCounts.{OwesSoMany};
-ghost use Rattle.aq_correct.specs.OwingLaws.{OwesByRule, OwesFragments, OwesValid, TrueThenCorrect};
-ghost use Rattle.aq_correct.specs.Uncut.{UncutLaws};
+ghost use Rattle.aq_correct.specs.OwingLaws.{OwesByRule, OwesClaimed, OwesFragments, OwesValid, TrueThenCorrect};
 ghost use Rattle.aq_correct.specs.WorldLaws.{
   NoughtWorlds,
   WorldsCompare,
@@ -12,16 +10,6 @@ ghost use Rattle.aq_correct.specs.WorldLaws.{
   WorldsRefute,
 };
 ghost use Rattle.aq_obligations.specs.declared.bound.BoundCase.{BoundCase};
-
-/// What a program whose statements are gates owes between claims of any number of cases. Its one obligation is true
-/// where the gates take each vector of a case of the precondition that is met to zero or to a nonzero multiple of a
-/// vector of a case of the postcondition that is met, and else the first vector that they don't is its refutation. It
-/// is wide where a gate on the way, or a product of an entry of an end with one of an allowed vector, doesn't fit.
-/// Where it is true, the program is correct.
-#[tactic(auto, using(crate::proofs::GatesOnlyProofs::gates_only_laws))]
-pub fn gates_only()
-    ensures laws { GatesOnlyLaws }
-{}
 
 /// What the worlds of an obligation are for, where its fragment has no cut. Each run whose end isn't zero is in
 /// exactly one world of its case, at one place. Each vector of a world is the end of the runs that start as the world
@@ -38,21 +26,16 @@ pub fn worlds()
     ensures nought { NoughtWorlds }
 {}
 
-/// What a program with claims owes: the rules by which its obligations are made, that they are valid and none of
-/// their fragments has a cut, how many they are and how many statements their fragments have, and that the program is
-/// correct where all of them are true, for all outcomes and all numbers of turns.
-#[tactic(auto, using(crate::proofs::OwingProofs::owes_by_rule, crate::proofs::OwingProofs::owes_fragments, crate::proofs::ValidOwed::owes_valid, crate::proofs::CountLaws::owes_so_many, crate::proofs::CorrectLaws::true_then_correct))]
+/// What a program with claims owes: the rules by which its obligations are made, that they are valid, that their cases
+/// are those of the claims and none of their fragments has a cut, how many they are and how many statements their
+/// fragments have, and that the program is correct where all of them are true, for all outcomes and all numbers of
+/// turns.
+#[tactic(auto, using(crate::proofs::OwingProofs::owes_by_rule, crate::proofs::OwingProofs::owes_fragments, crate::proofs::ValidOwed::owes_valid, crate::proofs::ClaimedOwed::owes_claimed, crate::proofs::CountLaws::owes_so_many, crate::proofs::CorrectLaws::true_then_correct))]
 pub fn obligations()
     ensures rules { OwesByRule BoundCase }
     ensures fragments { OwesFragments BoundCase }
     ensures valid { OwesValid BoundCase }
+    ensures claimed { OwesClaimed BoundCase }
     ensures count { OwesSoMany BoundCase }
     ensures correct { TrueThenCorrect BoundCase }
-{}
-
-/// What a program without a cut owes, which has measurements and branches, and no loop and no assertion: one
-/// obligation, and where that is true, the program is correct.
-#[tactic(auto, using(crate::proofs::UncutProofs::uncut_laws))]
-pub fn uncut()
-    ensures laws { UncutLaws }
 {}

@@ -1,8 +1,7 @@
 //! What obligations come to: the worlds of one decide it, and a program is correct where all of its obligations are
 //! true.
 //!
-//! The statements are in `specs/`: `WorldLaws` of the worlds of one obligation, `OwingLaws` of those of a program,
-//! `Uncut` of programs that owe one, and `GatesOnly` of programs whose statements are gates.
+//! The statements are in `specs/`: `WorldLaws` of the worlds of one obligation, and `OwingLaws` of those of a program.
 #![tactic(auto)]
 
 pub mod laws;

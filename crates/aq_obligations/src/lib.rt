@@ -2,20 +2,14 @@
 //! many steps are enough for it, and when the program is correct.
 //!
 //! The definitions are in `specs/`. `Obligations` has what an obligation means, over `Claims`, `Wide`, `Worlds` and
-//! `Correct`. `Bound` says which claims of a set file are asked of a program, `Asking` what the program then owes and
-//! means, and `Enough` how many steps are enough.
+//! `Correct`. `Owing` says which obligations a program has, `Asking` what one means by its set file, and `Enough` how
+//! many steps are enough.
 #![tactic(auto)]
 
-mod bind;
 mod bound;
-mod end;
 mod kind;
 mod steps;
-#[cfg(test)]
-mod tests;
 
-pub use bind::ask;
-pub use bound::{AskedClaims, BoundCase, ClaimFault, Goal, Obligation};
-pub use end::obligation_at_end;
+pub use bound::{BoundCase, Goal, Obligation};
 pub use kind::Kind;
-pub use steps::enough_steps;
+pub use steps::{enough_steps, statements_in};

@@ -13,8 +13,8 @@ use crate::bound::{BoundCase, Obligation};
 use aq_prog::{Guard, Program, Stmt};
 use aq_sets::{Sets, Size, capped_product, capped_sum};
 
-/// The statements, inner ones included.
-fn statements_in(body: &[Stmt]) -> u128
+/// The number of statements, inner ones included, up to 2^64.
+pub fn statements_in(body: &[Stmt]) -> u128
     ensures { result ≡ capped (statements body.now) }
 {
     let mut count = 0;

@@ -1,0 +1,6 @@
+mod BoundLaws
+mod PartLaws
+mod WeightLaws
+mod CountRules
+mod OweLaws
+mod MadeLaws

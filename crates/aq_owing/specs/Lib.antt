@@ -1,0 +1,4 @@
+pub mod Asking
+pub mod Made
+pub mod FaultNames
+pub mod Making
