@@ -35,10 +35,10 @@ unfoldable pub refusal_text : Refusal → List ℕ
 refusal_text (refusal.Program at name) = program_line at name.now
 refusal_text (refusal.NotTaken at word) = program_line at (codes "NotTaken " ++ word)
 refusal_text refusal.ProgramTooLong = codes "refused: program: TooLong" ++ newline
-refusal_text refusal.ProgramUnbuilt = codes "refused: program: Unbuilt" ++ newline
 refusal_text (refusal.Sets at name) = sets_line at name.now
 refusal_text refusal.SetsTooLong = codes "refused: sets: TooLong" ++ newline
 refusal_text (refusal.Claim claim name) = claim_line claim name.now
+refusal_text refusal.TooManyObligations = codes "refused: TooManyObligations" ++ newline
 refusal_text (refusal.Set set name) = set_line set.now name.now
 refusal_text (refusal.Replay name) = replay_line name.now
 refusal_text (refusal.ReadFault file) = read_fault_line file.now

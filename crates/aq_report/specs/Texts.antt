@@ -5,6 +5,8 @@ use Rattle.aq_ring.specs.Fractions.{Amplitude}
 use Rattle.aq_ring.specs.Vectors.{is_zero}
 use Rattle.aq_plain.specs.Vectors.{StateVector}
 use Rattle.aq_world.specs.Pieces.{bits_text, ket_text}
+use Rattle.aq_obligations.specs.declared.bound.Goal.{Goal}
+use Rattle.aq_obligations.specs.declared.bound.Obligation.{Obligation}
 use Rattle.aq_obligations.specs.declared.kind.Kind.{Kind}
 use Rattle.aq_obligations.specs.declared.kind.Kind.TheVariants as kind
 use Rattle.aq_report.specs.declared.verdict.Refutation.{Refutation}
@@ -84,17 +86,12 @@ outcome_text (verdict.GaveUp w) = codes "gave up " ++ (why_text w ++ newline)
 outcome_text (verdict.Refuted r) = refuted_line ++ refutation_text r
 
 -- the lines of an obligation's verdict
-abbrev pub verdict_text : ℕ → Kind → ℕ → Verdict → List ℕ
-verdict_text number k line v = (decimal number ++ kind_text k line) ++ outcome_text v
+abbrev pub verdict_text : ℕ → Goal → Verdict → List ℕ
+verdict_text number goal v = (decimal number ++ kind_text goal.kind goal.line) ++ outcome_text v
 
 abbrev pub summary_text : ℕ → ℕ → ℕ → List ℕ
 summary_text verified refuted gave_up =
     codes "verified " ++ (decimal verified ++ (codes ", refuted " ++ (decimal refuted ++ (codes ", gave up " ++ (decimal gave_up ++ newline)))))
-
--- what is told of an obligation in its head
-pub record Heading : Type 0 where
-  pub kind : Kind
-  pub line : ℕ
 
 abbrev pub is_verified : Verdict → Bool
 is_verified verdict.Verified = true
@@ -111,12 +108,15 @@ is_given_up verdict.Verified = false
 is_given_up (verdict.Refuted r) = false
 is_given_up (verdict.GaveUp w) = true
 
--- the lines of the obligations with these headings and verdicts, numbered from this number on
-abbrev pub lines_from : ℕ → List Heading → List Verdict → List ℕ
-lines_from number (h ∷ hs) (v ∷ vs) = verdict_text number h.kind h.line v ++ lines_from (number + 1) hs vs
+-- the lines of the obligations with their verdicts, numbered from this number on
+abbrev pub lines_from : ℕ → List Obligation → List Verdict → List ℕ
+lines_from number (o ∷ os) (v ∷ vs) = verdict_text number o.goal v ++ lines_from (number + 1) os vs
 lines_from number _ _ = []
 
--- the whole report: the lines of each obligation in order, and the counts
-abbrev pub report : List Heading → List Verdict → List ℕ
-report headings verdicts = lines_from 1 headings verdicts
-    ++ summary_text (count_by is_verified verdicts) (count_by is_refuted verdicts) (count_by is_given_up verdicts)
+-- how many are verified, refuted and given up
+abbrev pub counts_text : List Verdict → List ℕ
+counts_text verdicts = summary_text (count_by is_verified verdicts) (count_by is_refuted verdicts) (count_by is_given_up verdicts)
+
+-- The whole report, where there is a verdict for each obligation: the lines of each in order, and the counts.
+abbrev pub report : List Obligation → List Verdict → List ℕ
+report obligations verdicts = lines_from 1 obligations verdicts ++ counts_text verdicts

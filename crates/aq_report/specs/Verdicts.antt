@@ -1,8 +1,13 @@
 -- When a verdict is justified.
-use Rattle.std.specs.Prelude.{◌≡◌, ℕ, ◌<◌}
+use Rattle.std.specs.Prelude.{◌≡◌, ℕ, ◌<◌, List, [], ◌∷◌}
+use Rattle.aq_prog.specs.declared.program.Program.{Program}
+use Rattle.aq_sets.specs.declared.sets.Sets.{Sets}
+use Rattle.aq_obligations.specs.Asking.{meaning_of}
+use Rattle.aq_obligations.specs.Enough.{enough}
 use Rattle.aq_obligations.specs.Obligations.{Meaning, Shown, IsTrueOf, IsCounterexample}
 use Rattle.aq_obligations.specs.Wide.{IsWide}
 use Rattle.aq_obligations.specs.Worlds.{IsRefutation}
+use Rattle.aq_obligations.specs.declared.bound.Obligation.{Obligation}
 use Rattle.aq_report.specs.declared.verdict.Refutation.{Refutation}
 use Rattle.aq_report.specs.declared.verdict.Verdict.{Verdict}
 use Rattle.aq_report.specs.declared.verdict.Verdict.TheVariants as verdict
@@ -27,3 +32,10 @@ IsJustified limit enough o (verdict.Refuted r) = IsRefutedBy o r
 IsJustified limit enough o (verdict.GaveUp why.Width) = IsWide o
 IsJustified limit enough o (verdict.GaveUp why.Steps) = limit < enough
 IsJustified limit enough o (verdict.GaveUp why.Memory) = Unit {0}
+
+-- There is one verdict for each obligation of the program, and each is justified.
+abbrev pub AreJustified : ℕ → Program → Sets → List Obligation → List Verdict → Type 0
+AreJustified limit p s [] [] = Unit {0}
+AreJustified limit p s (o ∷ os) (v ∷ vs) = IsJustified limit (enough p s o) (meaning_of p s o) v × AreJustified limit p s os vs
+AreJustified limit p s [] (v ∷ vs) = ⊥
+AreJustified limit p s (o ∷ os) [] = ⊥

@@ -21,7 +21,7 @@ ghost use Rattle.aq_report.specs.Texts.{
 };
 
 use crate::verdict::{Refutation, Verdict, Why};
-use aq_obligations::Kind;
+use aq_obligations::{Goal, Kind};
 use aq_plain::{Played, Vector};
 use aq_ring::Amp;
 use aq_world::{Piece, Sink, SinkFault, put_pieces, put_text};
@@ -193,8 +193,8 @@ fn print_outcome<K: Sink>(out: &mut K, verdict: &Verdict) -> Result<(), SinkFaul
     }
 }
 
-/// Prints the lines of a verdict on obligation number `number`, of this kind. `line` is the line of its assertion or
-/// loop, and a postcondition prints none.
+/// Prints the lines of a verdict on obligation number `number`, which has this goal. A postcondition prints no line of
+/// the program.
 ///
 /// The first line is `1 post: `, `2 assert line 3: `, `3 entry line 7: ` or `4 keep line 7: ` with `verified`,
 /// `refuted`, `gave up width`, `gave up steps` or `gave up memory` behind it. Behind `refuted` come lines that begin
@@ -206,13 +206,12 @@ fn print_outcome<K: Sink>(out: &mut K, verdict: &Verdict) -> Result<(), SinkFaul
 pub fn print_verdict<K: Sink>(
     out: &mut K,
     number: u32,
-    kind: Kind,
-    line: u32,
+    goal: &Goal,
     verdict: &Verdict,
 ) -> Result<(), SinkFault>
-    ensures { Prints K.meaning out.old out.new result (verdict_text number kind line verdict.now) }
+    ensures { Prints K.meaning out.old out.new result (verdict_text number goal.now verdict.now) }
 {
-    print_head(out, number, kind, line)?;
+    print_head(out, number, goal.kind, goal.line)?;
     print_outcome(out, verdict)
 }
 

@@ -33,8 +33,6 @@ pub enum Refusal<'a> {
     },
     /// The program's file is too long.
     ProgramTooLong,
-    /// The program has a statement that isn't built.
-    ProgramUnbuilt,
     /// The sets' text has this fault.
     Sets {
         /// Where it stands.
@@ -51,6 +49,8 @@ pub enum Refusal<'a> {
         /// The fault's name.
         name: &'a str,
     },
+    /// The program owes too many obligations.
+    TooManyObligations,
     /// A state can't be had of the set.
     Set {
         /// The set's name.
@@ -191,10 +191,10 @@ pub fn print_refusal<K: Sink>(out: &mut K, refusal: &Refusal<'_>) -> Result<(), 
         Refusal::Program { at, name } => print_program(out, *at, name.as_bytes(), b""),
         Refusal::NotTaken { at, word } => print_program(out, *at, b"NotTaken ", word.as_slice()),
         Refusal::ProgramTooLong => put_text(out, b"refused: program: TooLong\n"),
-        Refusal::ProgramUnbuilt => put_text(out, b"refused: program: Unbuilt\n"),
         Refusal::Sets { at, name } => print_sets(out, *at, name.as_bytes()),
         Refusal::SetsTooLong => put_text(out, b"refused: sets: TooLong\n"),
         Refusal::Claim { claim, name } => print_claim(out, claim.as_slice(), name.as_bytes()),
+        Refusal::TooManyObligations => put_text(out, b"refused: TooManyObligations\n"),
         Refusal::Set { set, name } => print_set(out, set.as_bytes(), name.as_bytes()),
         Refusal::Replay { name } => print_replay_refusal(out, name.as_bytes()),
         Refusal::ReadFault { file } => print_read_fault(out, file.as_bytes()),

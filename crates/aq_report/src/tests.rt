@@ -2,7 +2,7 @@ ghost use Rattle.std.specs.Prelude.{◌≡◌, ◌<◌, ◌≤◌, ◌^◌, IfOk
 
 use crate::{Refutation, Verdict, Why, print_replay, print_summary, print_verdict};
 use aq_lex::Text;
-use aq_obligations::Kind;
+use aq_obligations::{Goal, Kind};
 use aq_plain::{Played, Vector};
 use aq_ring::Amp;
 use aq_world::{HonestSink, MemorySink, Sink};
@@ -10,8 +10,20 @@ use sqlite_items::Items;
 use std::alloc::Global;
 use std::test::Fail;
 
-fn verdict_by<K: Sink>(out: &mut K, number: u32, kind: Kind, line: u32, verdict: &Verdict) -> bool {
-    print_verdict(out, number, kind, line, verdict).is_ok()
+fn verdict_by<K: Sink>(
+    alloc: Global,
+    out: &mut K,
+    number: u32,
+    kind: Kind,
+    line: u32,
+    verdict: &Verdict,
+) -> bool {
+    let goal = Goal {
+        kind,
+        line,
+        cases: Items::new(alloc),
+    };
+    print_verdict(out, number, &goal, verdict).is_ok()
 }
 
 fn summary_by<K: Sink>(out: &mut K, verified: u32, refuted: u32, gave_up: u32) -> bool {
@@ -88,7 +100,7 @@ fn heads_and_short_verdicts(rt: HostRuntime) {
     ];
     for (number, kind, line, verdict, wanted) in &rows {
         let mut out = empty_sink(rt.alloc());
-        assert!(rt; verdict_by(&mut out, *number, *kind, *line, verdict));
+        assert!(rt; verdict_by(rt.alloc(), &mut out, *number, *kind, *line, verdict));
         assert_eq!(rt; out.bytes.as_slice(), *wanted);
     }
 }
@@ -103,7 +115,7 @@ fn a_refutation_without_bits(rt: HostRuntime) -> Result<(), Fail> {
         end: basis(rt.alloc(), 1, 1)?,
     });
     let mut out = empty_sink(rt.alloc());
-    assert!(rt; verdict_by(&mut out, 1, Kind::Post, 0, &verdict));
+    assert!(rt; verdict_by(rt.alloc(), &mut out, 1, Kind::Post, 0, &verdict));
     let wanted =
         b"1 post: refuted\n  bits -\n  state |0> (1,0,0,0)/0\n  outcomes -\n  end bits -\n  end |1> (1,0,0,0)/0\n";
     assert_eq!(rt; out.bytes.as_slice(), wanted.as_slice());
@@ -123,7 +135,7 @@ fn a_refutation_with_bits(rt: HostRuntime) -> Result<(), Fail> {
         end,
     });
     let mut out = empty_sink(rt.alloc());
-    assert!(rt; verdict_by(&mut out, 3, Kind::Keep, 12, &verdict));
+    assert!(rt; verdict_by(rt.alloc(), &mut out, 3, Kind::Keep, 12, &verdict));
     let wanted =
         b"3 keep line 12: refuted\n  bits 100\n  state |01> (1,0,0,0)/0\n  outcomes 01\n  end bits 011\n  \
         end |00> (1,0,0,-2)/3\n  end |11> (0,-15,4,0)/0\n";
@@ -166,7 +178,7 @@ fn a_sink_that_fails_keeps_a_front(rt: HostRuntime) -> Result<(), Fail> {
         calls: 0,
         count: 0,
     };
-    assert!(rt; !verdict_by(&mut out, 1, Kind::Post, 0, &Verdict::Verified));
+    assert!(rt; !verdict_by(rt.alloc(), &mut out, 1, Kind::Post, 0, &Verdict::Verified));
     assert_eq!(rt; out.bytes.as_slice(), b"1 post: ve".as_slice());
     assert_eq!(rt; (out.calls, out.count), (11, 1));
     assert!(rt; summary_by(&mut out, 0, 1, 0));
