@@ -4,3 +4,4 @@ mod ZeroLaws
 pub mod SpreadLaws
 mod SeveralLaws
 mod CallLaws
+mod SameLaws
