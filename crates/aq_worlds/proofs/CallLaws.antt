@@ -83,7 +83,7 @@ stmt_plays body worlds i x rest now lt e on p = record {
   playable = next_playable p.qubits p.bits p.qubits p.bits i body x x lt e refl refl p.playable;
 }
 
-contains_map : {A B : Type 0} (f : A → B) (xs : List A) (x : A) → Contains xs x → Contains (map f xs) (f x)
+pub contains_map : {A B : Type 0} (f : A → B) (xs : List A) (x : A) → Contains xs x → Contains (map f xs) (f x)
 contains_map f [] x h = absurd (omega (arith, h.1))
 contains_map f (y ∷ ys) x h = by_place h.0 h.1 h.2 (λ g. contains_map f ys x g)
   where

@@ -5,3 +5,6 @@ pub mod SpreadLaws
 mod SeveralLaws
 mod CallLaws
 mod SameLaws
+mod StartLaws
+mod DecideLaws
+mod CaseLaws

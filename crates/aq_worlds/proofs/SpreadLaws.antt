@@ -151,14 +151,14 @@ pub record LeadsOn (body : List Stmt) (worlds : List PlainWorld) (rest : List St
 pub leads_first : (body : List Stmt) (worlds : List PlainWorld) → LeadsOn body worlds body worlds
 leads_first body worlds = record { sized = λ n m s. s; ends = λ n m c s. refl; unfit = λ n m c s u. u }
 
-contains_flat : {A B : Type 0} (f : A → List B) (xs : List A) (y : B) → Contains (flat_map f xs) y → (x : A) × Contains xs x × Contains (f x) y
+pub contains_flat : {A B : Type 0} (f : A → List B) (xs : List A) (y : B) → Contains (flat_map f xs) y → (x : A) × Contains xs x × Contains (f x) y
 contains_flat f [] y h = absurd (omega (arith, h.1))
 contains_flat f (x ∷ xs) y h = ⊎_elim
     (λ g. (x, (0, omega arith, refl), g))
     (λ g. let r = contains_flat f xs y g in (r.0, Contains-append_right (x ∷ []) xs r.0 r.1, r.2))
     (Contains-append_cases (f x) (flat_map f xs) y h)
 
-flat_contains : {A B : Type 0} (f : A → List B) (xs : List A) (x : A) (y : B) → Contains xs x → Contains (f x) y → Contains (flat_map f xs) y
+pub flat_contains : {A B : Type 0} (f : A → List B) (xs : List A) (x : A) (y : B) → Contains xs x → Contains (f x) y → Contains (flat_map f xs) y
 flat_contains f [] x y c d = absurd (omega (arith, c.1))
 flat_contains f (z ∷ xs) x y c d = by_place c.0 c.1 c.2 (λ g. flat_contains f xs x y g d)
   where
@@ -226,7 +226,7 @@ leads_stop body worlds i x now h e on p = λ n m c s.
     here.unfit n m c s
     (record { met = u.met; is_met = met_here n x (drop (i + 1) body) (map (world_of c) now) u.met u.is_met; vector = u.vector; there = u.there; wide = u.wide })
 
-flat_itself : (ws : List World) → flat_map (in_worlds []) ws ≡ ws
+pub flat_itself : (ws : List World) → flat_map (in_worlds []) ws ≡ ws
 flat_itself [] = refl
 flat_itself (w ∷ ws) = ap (λ (l : List World). w ∷ l) (flat_itself ws)
 

@@ -4,8 +4,10 @@
 #![tactic(auto)]
 
 mod case;
+mod decide;
 mod several;
 mod spread;
+mod start;
 mod stop;
 mod vectors;
 mod world;
