@@ -63,16 +63,6 @@ halves_play w x halves bit l made p q = record {
   playable = q;
 }
 
--- one of the worlds can be played on as all can
-pub next_plays : (all : List PlainWorld) (k : ℕ) (w : PlainWorld) (l : List Stmt) → k < length all → w ≡ get_or all k w → CanPlay all l → CanPlay (w ∷ []) l
-next_plays all k w l lt e p = record { qubits = p.qubits; bits = p.bits; sized = sized_at p.qubits p.bits all k w lt e p.sized; playable = p.playable }
-
-pub next_plays_stmt : (all : List PlainWorld) (k : ℕ) (w : PlainWorld) (x : Stmt) → k < length all → w ≡ get_or all k w → CanPlayStmt all x → CanPlayStmt (w ∷ []) x
-next_plays_stmt all k w x lt e p = record { qubits = p.qubits; bits = p.bits; sized = sized_at p.qubits p.bits all k w lt e p.sized; playable = p.playable }
-
-pub one_plays : (w : PlainWorld) (list : List PlainWorld) (l : List Stmt) → list ≡ w ∷ [] → CanPlay (w ∷ []) l → CanPlay list l
-one_plays w list l e p = subst (λ (z : List PlainWorld). CanPlay z l) (sym e) p
-
 -- the next statement can be played
 pub stmt_plays : (body : List Stmt) (worlds : List PlainWorld) (i : ℕ) (x : Stmt) (rest : List Stmt) (now : List PlainWorld) → i < length body → x ≡ get_or body i x → LeadsOn body worlds rest now
     → CanPlay worlds body → CanPlayStmt now x

@@ -1,5 +1,5 @@
 -- The worlds of a case, from its start to its end.
-use Rattle.std.proofs.Common.{◌≡◌, ℕ, Bool, ◌==◌, List, [], ◌∷◌, ◌++◌, ◌||◌, map, filter, Contains, length, refl, ap, ap₂, sym, ◌∙◌, subst}
+use Rattle.std.proofs.Common.{◌≡◌, ℕ, ◌==◌, List, [], ◌∷◌, ◌++◌, ◌||◌, map, filter, Contains, refl, ap, ◌∙◌, subst}
 use Rattle.std.specs.List.{flat_map, list_any}
 use Rattle.std.proofs.lemmas.List.Concat.{flat_map-append}
 use Rattle.std.proofs.lemmas.List.Elements.{filter-append}
@@ -11,13 +11,13 @@ use Rattle.aq_obligations.specs.Asking.{case_of, cases_of, meaning_of}
 use Rattle.aq_obligations.specs.Claims.{ClaimCase}
 use Rattle.aq_obligations.specs.Covering.{meets_of}
 use Rattle.aq_obligations.specs.Wide.{WideGate}
-use Rattle.aq_obligations.specs.Worlds.{World, Spread, in_worlds, mentioned, mentions, spread, split, start_worlds}
+use Rattle.aq_obligations.specs.Worlds.{World, Spread, in_worlds, mentioned, mentions, split, start_worlds}
 use Rattle.aq_obligations.specs.declared.bound.BoundCase.{BoundCase}
 use Rattle.aq_obligations.specs.declared.bound.Obligation.{Obligation}
 use Rattle.aq_prog.specs.Digits.{tabulate}
 use Rattle.aq_correct.specs.WorldLaws.{WorldsMeetGates, is_alive, start_of, worlds_of}
 use Rattle.aq_correct.proofs.NoughtLaws.{nought_worlds}
-use Rattle.aq_worlds.specs.Playing.{AreUnfit, Gives, Leaves, MeetsUnfit, lives, spread_of, world_of}
+use Rattle.aq_worlds.specs.Playing.{AreUnfit, Gives, Leaves, lives, spread_of, world_of}
 use Rattle.aq_worlds.specs.Starting.{Decides, asked_bits, is_asked}
 use Rattle.aq_worlds.specs.declared.world.PlainWorld.{PlainWorld}
 use Rattle.aq_worlds.proofs.SpreadLaws.{contains_flat, flat_contains, gives_alive, gives_same}

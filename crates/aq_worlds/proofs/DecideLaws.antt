@@ -1,16 +1,16 @@
 -- Worlds that are split at bits.
-use Rattle.std.proofs.Common.{◌≡◌, ℕ, zero, suc, ◌+◌, ◌<◌, ◌==◌, Bool, true, false, cond, List, [], ◌∷◌, ◌++◌, map, filter, length, take, get_or, refl, ap, ap₂, sym, ◌∙◌, subst, append-nil, add-one}
+use Rattle.std.proofs.Common.{◌≡◌, ℕ, ◌+◌, ◌<◌, Bool, true, false, cond, List, [], ◌∷◌, ◌++◌, map, filter, length, take, get_or, refl, ap, ap₂, sym, ◌∙◌, subst, append-nil, add-one}
 use Rattle.std.specs.List.{flat_map}
 use Rattle.std.proofs.lemmas.List.{take_more, map-append}
 use Rattle.std.proofs.Math.Seq.{take-length}
 use Rattle.std.proofs.lemmas.List.Concat.{flat_map-append}
-use Rattle.std.proofs.lemmas.List.Elements.{All-nil, All-cons, All-append, All-get_or, filter-append}
+use Rattle.std.proofs.lemmas.List.Elements.{All-append, All-get_or, filter-append}
 use Rattle.aq_prog.specs.Digits.{tabulate}
 use Rattle.aq_obligations.specs.Claims.{ClaimCase}
 use Rattle.aq_obligations.specs.Worlds.{World, in_worlds, split}
 use Rattle.aq_obligations.specs.declared.bound.BoundCase.{BoundCase}
 use Rattle.aq_correct.proofs.NoughtLaws.{nought_worlds}
-use Rattle.aq_worlds.specs.Playing.{world_of, IsSized, AreSized, Gives}
+use Rattle.aq_worlds.specs.Playing.{world_of, IsSized, Gives}
 use Rattle.aq_worlds.specs.Starting.{AreOfBits, Decides, Halves, HaveBit, asked_bits, is_asked}
 use Rattle.aq_worlds.specs.declared.world.PlainWorld.{PlainWorld}
 use Rattle.aq_worlds.proofs.SpreadLaws.{gives_same, flat_itself, no_case}

@@ -1,12 +1,11 @@
-use Rattle.std.proofs.Common.{List, length, sym, ◌∙◌, subst}
+use Rattle.std.proofs.Common.{List, length, sym, subst}
 use Rattle.std.proofs.lemmas.Result.{err_from_is_err_and}
-use Rattle.aq_prog.specs.Cuts.{AreUncut}
 use Rattle.aq_prog.specs.declared.stmt.Stmt.{Stmt}
-use Rattle.aq_obligations.specs.Asking.{case_of, meaning_of}
+use Rattle.aq_obligations.specs.Asking.{case_of}
 use Rattle.aq_obligations.specs.Covering.{meets_of}
 use Rattle.aq_obligations.specs.declared.bound.BoundCase.{BoundCase}
 use Rattle.aq_plain.specs.Replaying.{ArePlayable}
-use Rattle.aq_worlds.specs.Playing.{AreUnfit, CanPlay, Leaves, spread_of}
+use Rattle.aq_worlds.specs.Playing.{AreUnfit, Leaves, spread_of}
 use Rattle.aq_worlds.specs.Starting.{Decides, asked_bits}
 use Rattle.aq_worlds.proofs.CallLaws.{stops_gives}
 use Rattle.aq_worlds.proofs.CaseLaws.{case_given, case_unfit}

@@ -1,4 +1,4 @@
-use Rattle.std.proofs.Common.{◌≡◌, ℕ, List, subst, arith}
+use Rattle.std.proofs.Common.{◌≡◌, ℕ, subst, arith}
 use Rattle.aq_worlds.specs.Starting.{Decides, asked_bits}
 use Rattle.aq_worlds.proofs.DecideLaws.{decides_none, decides_step, have_bit}
 use Rattle.aq_worlds.proofs.decide.decide_all.Goals as goal

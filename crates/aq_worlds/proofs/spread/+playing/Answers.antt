@@ -1,17 +1,17 @@
-use Rattle.std.proofs.Common.{rules, ◌≡◌, ℕ, ◌<◌, ◌+◌, ◌*◌, true, false, List, [], ◌∷◌, length, slice_get, sym, ap, refl, ◌∙◌, subst, arith, drop, length-append}
+use Rattle.std.proofs.Common.{rules, ◌≡◌, ◌<◌, ◌+◌, ◌*◌, true, false, List, [], ◌∷◌, length, slice_get, sym, ap, refl, ◌∙◌, subst, arith, drop, length-append}
 use Rattle.std.specs.Vec.{vec_len}
 use Rattle.std.proofs.lemmas.Iterator.Adapters.{YieldsList-from_vec}
 use Rattle.std.proofs.lemmas.Iterator.Consumers.{YieldsList-turn, YieldsList-end}
 use Rattle.std.proofs.lemmas.Result.{err_from_is_err_and}
 use Rattle.std.proofs.Math.ListN.{drop_of_length-le}
 use Rattle.aq_prog.specs.declared.stmt.Stmt.{Stmt}
-use Rattle.aq_obligations.specs.Covering.{meets, meets_of}
-use Rattle.aq_obligations.specs.Worlds.{spread, measured_world, reset_world, with_vectors, assumed_worlds}
+use Rattle.aq_obligations.specs.Covering.{meets}
+use Rattle.aq_obligations.specs.Worlds.{spread, measured_world, reset_world, assumed_worlds}
 use Rattle.aq_plain.specs.Replaying.{ArePlayable}
 use Rattle.aq_plain.proofs.PlayLaws.{ok_gives, err_gives, weight, weight_of, branch_weight, next_weight, branch_valid}
 use Rattle.aq_worlds.specs.Playing.{world_of, branch_of, branch_met}
-use Rattle.aq_worlds.proofs.SpreadLaws.{LeadsOn, leads_first, leads_next, leads_stop, leads_out, collect_first, collect_step, collect_end, unfit_at, leaves_by, spread_gate, spread_measure, spread_reset, spread_assume, branches_leave, branches_unfit, taken_leaves, taken_unfit, yes_uncut, no_uncut, next_uncut}
-use Rattle.aq_worlds.proofs.CallLaws.{stops_gives, valid_on_all, measured_qubit, measured_bit, reset_qubit, if_bits, assume_bits, halves_play, next_plays, next_plays_stmt, one_plays, stmt_plays, gate_unfit}
+use Rattle.aq_worlds.proofs.SpreadLaws.{LeadsOn, leads_next, leads_stop, leads_out, collect_step, collect_end, unfit_at, leaves_by, spread_gate, spread_measure, spread_reset, spread_assume, branches_leave, branches_unfit, taken_leaves, taken_unfit, yes_uncut, no_uncut, next_uncut}
+use Rattle.aq_worlds.proofs.CallLaws.{stops_gives, valid_on_all, measured_qubit, measured_bit, reset_qubit, if_bits, assume_bits, halves_play, stmt_plays, gate_unfit}
 use Rattle.aq_worlds.proofs.SameLaws.{leaves_same, met_same, one_leaves, one_unfit}
 use Rattle.aq_worlds.proofs.spread.+playing.Goals as goal
 

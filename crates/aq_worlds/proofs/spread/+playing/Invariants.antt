@@ -1,4 +1,4 @@
-use Rattle.std.proofs.Common.{ℕ, ◌+◌, ◌*◌, drop, length, take}
+use Rattle.std.proofs.Common.{◌+◌, ◌*◌, drop, length, take}
 use Rattle.aq_obligations.specs.Worlds.{spread}
 use Rattle.aq_plain.proofs.PlayLaws.{weight, weight_of}
 use Rattle.aq_worlds.specs.Playing.{Collects, branch_of}
