@@ -63,16 +63,6 @@ halves_play w x halves bit l made p q = record {
   playable = q;
 }
 
--- one of the worlds can be played on as all can
-pub next_plays : (all : List PlainWorld) (k : ℕ) (w : PlainWorld) (l : List Stmt) → k < length all → w ≡ get_or all k w → CanPlay all l → CanPlay (w ∷ []) l
-next_plays all k w l lt e p = record { qubits = p.qubits; bits = p.bits; sized = sized_at p.qubits p.bits all k w lt e p.sized; playable = p.playable }
-
-pub next_plays_stmt : (all : List PlainWorld) (k : ℕ) (w : PlainWorld) (x : Stmt) → k < length all → w ≡ get_or all k w → CanPlayStmt all x → CanPlayStmt (w ∷ []) x
-next_plays_stmt all k w x lt e p = record { qubits = p.qubits; bits = p.bits; sized = sized_at p.qubits p.bits all k w lt e p.sized; playable = p.playable }
-
-pub one_plays : (w : PlainWorld) (list : List PlainWorld) (l : List Stmt) → list ≡ w ∷ [] → CanPlay (w ∷ []) l → CanPlay list l
-one_plays w list l e p = subst (λ (z : List PlainWorld). CanPlay z l) (sym e) p
-
 -- the next statement can be played
 pub stmt_plays : (body : List Stmt) (worlds : List PlainWorld) (i : ℕ) (x : Stmt) (rest : List Stmt) (now : List PlainWorld) → i < length body → x ≡ get_or body i x → LeadsOn body worlds rest now
     → CanPlay worlds body → CanPlayStmt now x
@@ -83,7 +73,7 @@ stmt_plays body worlds i x rest now lt e on p = record {
   playable = next_playable p.qubits p.bits p.qubits p.bits i body x x lt e refl refl p.playable;
 }
 
-contains_map : {A B : Type 0} (f : A → B) (xs : List A) (x : A) → Contains xs x → Contains (map f xs) (f x)
+pub contains_map : {A B : Type 0} (f : A → B) (xs : List A) (x : A) → Contains xs x → Contains (map f xs) (f x)
 contains_map f [] x h = absurd (omega (arith, h.1))
 contains_map f (y ∷ ys) x h = by_place h.0 h.1 h.2 (λ g. contains_map f ys x g)
   where

@@ -4,3 +4,7 @@ mod ZeroLaws
 pub mod SpreadLaws
 mod SeveralLaws
 mod CallLaws
+mod SameLaws
+mod StartLaws
+mod DecideLaws
+mod CaseLaws

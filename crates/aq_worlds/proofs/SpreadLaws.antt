@@ -73,21 +73,10 @@ pub length-stored : (bit : Option ℕ) (b : Bool) (bits : Partial) → length (s
 length-stored None b bits = refl
 length-stored (Some k) b bits = length-set bits k (Some b)
 
-pub sized_by : (n m : ℕ) (c : ClaimCase) (w u : PlainWorld) (x : World) (f : StateVector → StateVector) → IsSized n m w → world_of c u ≡ x → length x.start ≡ length w.start → length x.bits ≡ length w.bits
-    → u.vectors.items ≡ map f w.vectors.items → ((v : StateVector) → (f v).qubits ≡ v.qubits) → IsSized n m u
-sized_by n m c w u x f s e st bi vs keep = record {
-  start = ap (λ (y : World). length y.start) e ∙ st ∙ s.start;
-  bits = ap (λ (y : World). length y.bits) e ∙ bi ∙ s.bits;
-  vectors = subst (AreOn n) (sym vs) (All-map (λ (v : StateVector). v.qubits ≡ n) f w.vectors.items (λ k d h. keep _ ∙ s.vectors k d h));
-}
-
 -- ---- lists of worlds, one after the other
 
 filter_flat : (S : Spread) (xs ys : List World) → filter is_alive (flat_map S xs) ++ filter is_alive (flat_map S ys) ≡ filter is_alive (flat_map S (xs ++ ys))
 filter_flat S xs ys = sym (ap (filter is_alive) (flat_map-append S xs ys) ∙ filter-append is_alive (flat_map S xs) (flat_map S ys))
-
-pub collect_none : (S : ℕ → Spread) (all : List PlainWorld) → Collects S all [] []
-collect_none S all = λ n m c sized. record { worlds = refl; sized = All-nil (IsSized n m) }
 
 pub collect_next : (S : ℕ → Spread) (all : List PlainWorld) (k : ℕ) (w : PlainWorld) (list more : List PlainWorld) → k < length all → w ≡ get_or all k w
     → Collects S all (take k all) list → Leaves S (w ∷ []) more → Collects S all (take (k + 1) all) (list ++ more)
@@ -101,14 +90,6 @@ collect_next S all k w list more lt e first second = λ n m c sized.
           ∙ ap (λ (l : List World). filter is_alive (flat_map (S n) l)) (sym (ap (map (world_of c)) cut ∙ map-append (world_of c) (take k all) (w ∷ [])));
       sized = All-append (IsSized n m) list more a.sized b.sized;
     }
-
-take_none : (l : List PlainWorld) → take 0 l ≡ []
-take_none [] = refl
-take_none (x ∷ l) = refl
-
-pub collect_first : (S : ℕ → Spread) (all list : List PlainWorld) (k : ℕ) → k ≡ 0 → list ≡ [] → Collects S all (take k all) list
-collect_first S all list k e f =
-    subst (λ (l : List PlainWorld). Collects S all (take k all) l) (sym f) (subst (λ (j : ℕ). Collects S all (take j all) []) (sym e) (subst (λ (l : List PlainWorld). Collects S all l []) (sym (take_none all)) (collect_none S all)))
 
 pub collect_step : (S : ℕ → Spread) (all : List PlainWorld) (k j : ℕ) (w : PlainWorld) (list more next : List PlainWorld) → j ≡ k + 1 → next ≡ list ++ more → k < length all → w ≡ get_or all k w
     → Collects S all (take k all) list → Leaves S (w ∷ []) more → Collects S all (take j all) next
@@ -148,17 +129,14 @@ pub record LeadsOn (body : List Stmt) (worlds : List PlainWorld) (rest : List St
   pub unfit : (n m : ℕ) (c : ClaimCase) → AreSized n m worlds
       → MeetsUnfit n (flat_map (meets_of n rest) (map (world_of c) now)) → MeetsUnfit n (flat_map (meets_of n body) (map (world_of c) worlds))
 
-pub leads_first : (body : List Stmt) (worlds : List PlainWorld) → LeadsOn body worlds body worlds
-leads_first body worlds = record { sized = λ n m s. s; ends = λ n m c s. refl; unfit = λ n m c s u. u }
-
-contains_flat : {A B : Type 0} (f : A → List B) (xs : List A) (y : B) → Contains (flat_map f xs) y → (x : A) × Contains xs x × Contains (f x) y
+pub contains_flat : {A B : Type 0} (f : A → List B) (xs : List A) (y : B) → Contains (flat_map f xs) y → (x : A) × Contains xs x × Contains (f x) y
 contains_flat f [] y h = absurd (omega (arith, h.1))
 contains_flat f (x ∷ xs) y h = ⊎_elim
     (λ g. (x, (0, omega arith, refl), g))
     (λ g. let r = contains_flat f xs y g in (r.0, Contains-append_right (x ∷ []) xs r.0 r.1, r.2))
     (Contains-append_cases (f x) (flat_map f xs) y h)
 
-flat_contains : {A B : Type 0} (f : A → List B) (xs : List A) (x : A) (y : B) → Contains xs x → Contains (f x) y → Contains (flat_map f xs) y
+pub flat_contains : {A B : Type 0} (f : A → List B) (xs : List A) (x : A) (y : B) → Contains xs x → Contains (f x) y → Contains (flat_map f xs) y
 flat_contains f [] x y c d = absurd (omega (arith, c.1))
 flat_contains f (z ∷ xs) x y c d = by_place c.0 c.1 c.2 (λ g. flat_contains f xs x y g d)
   where
@@ -226,7 +204,7 @@ leads_stop body worlds i x now h e on p = λ n m c s.
     here.unfit n m c s
     (record { met = u.met; is_met = met_here n x (drop (i + 1) body) (map (world_of c) now) u.met u.is_met; vector = u.vector; there = u.there; wide = u.wide })
 
-flat_itself : (ws : List World) → flat_map (in_worlds []) ws ≡ ws
+pub flat_itself : (ws : List World) → flat_map (in_worlds []) ws ≡ ws
 flat_itself [] = refl
 flat_itself (w ∷ ws) = ap (λ (l : List World). w ∷ l) (flat_itself ws)
 
@@ -333,16 +311,6 @@ none_at (suc i) (s ∷ body) d h e = none_at i body d (omega (arith, h)) (neithe
 
 pub next_uncut : (i : ℕ) (body : List Stmt) (d x : Stmt) → i < length body → x ≡ get_or body i d → list_any has_cut body ≡ false → has_cut x ≡ false
 next_uncut i body d x h e free = ap has_cut e ∙ none_at i body d h free
-
-pub loop_is_none : (s : Stmt) (g : Guard) (claim : ℕ) (body : List Stmt) (line : ℕ) → s ≡ stmt.While g claim body line → has_cut s ≡ false → ⊥
-loop_is_none s g claim body line e free =
-    let is : true ≡ false = sym (fold-while Bool cut_step g claim body line) ∙ sym (ap has_cut e) ∙ free in
-    cc
-
-pub claim_is_none : (s : Stmt) (claim line : ℕ) → s ≡ stmt.Assert claim line → has_cut s ≡ false → ⊥
-claim_is_none s claim line e free =
-    let is : true ≡ false = sym (fold-assert Bool cut_step claim line) ∙ sym (ap has_cut e) ∙ free in
-    cc
 
 level_of : (n m k : ℕ) (x : Stmt-F Stmt) (s : Stmt) → s ≡ roll-Stmt x → IsValidStmt n m k s → IsValidLevel n m k x
 level_of n m k x s e v =

@@ -1,5 +1,5 @@
 -- What is asked of those who want the worlds of an obligation.
-use Rattle.std.specs.Prelude.{◌≡◌, List, All, length, ◌^◌}
+use Rattle.std.specs.Prelude.{◌≡◌, List}
 use Rattle.aq_prog.specs.Programs.{IsValidProgram}
 use Rattle.aq_prog.specs.declared.program.Program.{Program}
 use Rattle.aq_sets.specs.Valid.{IsValidSets}

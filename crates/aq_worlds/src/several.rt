@@ -11,7 +11,7 @@ use crate::world::PlainWorld;
 use aq_prog::{Gate, Guard};
 use std::alloc::{AllocError, Global};
 
-fn one(alloc: Global, world: PlainWorld) -> Result<Vec<PlainWorld>, AllocError>
+pub(crate) fn one(alloc: Global, world: PlainWorld) -> Result<Vec<PlainWorld>, AllocError>
     ensures { IfOk result (λ list. list.items ≡ world ∷ []) }
 {
     let mut list = Vec::new(alloc);
