@@ -1,7 +1,7 @@
 -- How the parts of a run make its ends, and what these say.
-use Rattle.std.proofs.Common.{◌≡◌, ℕ, Bool, true, List, Option, Some, None, Result, Ok, Err, refl, sym, ap₂, ◌∙◌, subst, ◌⊎◌, inl, inr}
+use Rattle.std.proofs.Common.{◌≡◌, ℕ, Bool, true, false, List, length, Option, Some, None, Result, Ok, Err, refl, sym, ap₂, ◌∙◌, subst, ◌⊎◌, inl, inr, if◌then◌else◌}
+use Rattle.std.specs.List.{list_any}
 use Rattle.std.specs.Io.KnownBytes.{Appends}
-use Rattle.aq_base.specs.Limits.{most_steps}
 use Rattle.aq_world.specs.Causes.{Rose}
 use Rattle.aq_world.specs.Held.{Held, bytes_at}
 use Rattle.aq_world.specs.Prints.{Prints}
@@ -9,31 +9,36 @@ use Rattle.aq_world.specs.Sinks.{SinkMeaning}
 use Rattle.aq_world.specs.declared.sink.SinkFault.{SinkFault}
 use Rattle.aq_world.specs.declared.sink.SinkFault.TheVariants as fault
 use Rattle.aq_obligations.specs.Correct.{IsCorrect}
-use Rattle.aq_obligations.specs.Obligations.{Meaning, IsTrueOf}
-use Rattle.aq_correct.proofs.GatesOnlyProofs.{gates_only_laws}
-use Rattle.aq_obligations.specs.Bound.{Asked}
-use Rattle.aq_obligations.specs.declared.bound.ClaimFault.{ClaimFault}
+use Rattle.aq_obligations.specs.Asking.{case_of, products_in}
+use Rattle.aq_obligations.specs.declared.bound.BoundCase.{BoundCase}
+use Rattle.aq_correct.specs.OwingLaws.{TrueThenCorrect}
+use Rattle.aq_owing.specs.Asking.{Asked, asked}
+use Rattle.aq_owing.specs.Made.{owed_by}
+use Rattle.aq_owing.specs.declared.asked.ObligationFault.{ObligationFault}
+use Rattle.aq_prog.specs.Programs.{IsValidProgram}
+use Rattle.aq_parse.specs.declared.tree.Tree.{Tree}
+use Rattle.aq_elab.specs.Elaborated.{elaborated}
+use Rattle.aq_elab.specs.Texts.{SaysProgram}
 use Rattle.aq_prog.specs.declared.program.Program.{Program}
 use Rattle.aq_ring.specs.Fractions.{Amplitude}
 use Rattle.aq_plain.specs.Replaying.{Replays}
 use Rattle.aq_plain.specs.declared.replay_stop.Played.{Played}
 use Rattle.aq_report.specs.Refusals.{refusal_text}
-use Rattle.aq_report.specs.Texts.{replay_text}
-use Rattle.aq_report.specs.Verdicts.{IsJustified}
+use Rattle.aq_report.specs.Texts.{replay_text, report, is_refuted, is_given_up}
+use Rattle.aq_report.specs.Verdicts.{AreJustified}
 use Rattle.aq_report.specs.declared.refusal.Refusal.{Refusal}
 use Rattle.aq_report.specs.declared.refusal.Refusal.TheVariants as refusal
 use Rattle.aq_report.specs.declared.verdict.Verdict.{Verdict}
-use Rattle.aq_report.specs.declared.verdict.Verdict.TheVariants as verdict
 use Rattle.aq_elab.proofs.TextsLaws.{one_program}
-use Rattle.aq_judge.specs.Bodies.{are_gates, gates_in}
-use Rattle.aq_judge.proofs.StmtLaws.{body_is}
-use Rattle.aq_top.specs.Check.{CheckWords, CheckCause, CheckEnd, IsReport, ReadsTask, verdict_status, post_report}
+use Rattle.aq_top.specs.Check.{CheckWords, CheckCause, CheckEnd, IsReport, ReadsTask}
+use Rattle.aq_top.specs.Judging.{verdicts_status}
 use Rattle.aq_top.specs.Clauses.{IsAnswer, IsReportOf, StatusSays, TellsTheRun, ToldIsCorrect}
 use Rattle.aq_top.specs.Commands.{Command, Check, Replay, RunEnd}
 use Rattle.aq_top.specs.Ends.{Ends, EndsAs, IsText, StoppedBy, refusal_status, status_of}
 use Rattle.aq_top.specs.Reads.{MayHold}
 use Rattle.aq_top.specs.Replay.{ReplayWords, ReplayCause, ReplayEnd, IsReplay, ReadsStart, begins}
-use Rattle.aq_top.specs.Tasks.{Task, IsTask, claims_asked, enough_for, obligation_of, program_of}
+use Rattle.aq_top.specs.Tasks.{Task, IsTask, owed_in, program_of}
+use Rattle.aq_top.proofs.ReportLemmas.{all_true}
 use Rattle.aq_top.specs.declared.status.Status.{Status}
 use Rattle.aq_top.specs.declared.status.Status.TheVariants as status
 use Rattle.aq_top.proofs.SetsLemmas.{one_sets}
@@ -41,7 +46,7 @@ use Rattle.aq_top.proofs.SetsLemmas.{one_sets}
 -- ---- ends, whatever the command
 
 -- a call that prints a whole text ends with it, or as the sink stopped it
-pub Prints-ends : {S : Type 0} (sink : SinkMeaning S) (old new : S) (r : Result (Unit {0}) SinkFault) (wanted result : Status) (text : List ℕ)
+pub Prints-ends : {S T : Type 0} (sink : SinkMeaning S) (old new : S) (r : Result T SinkFault) (wanted result : Status) (text : List ℕ)
     → Prints sink old new r text → result ≡ status_of r wanted → Ends sink old new (IsText wanted text) result
 Prints-ends sink old new (Ok x) wanted result text p e = (text, p.bytes, inl (e, refl))
 Prints-ends sink old new (Err fault.Failed) wanted result text p e =
@@ -71,9 +76,9 @@ EndsAs-says Stopped E Says result written f w m (inr (inr e)) = subst (λ (s : S
 -- ---- checks
 
 -- a report that is said is an end of a check, and so is a refusal
-pub report_end : (told : Option Held) (RF : List ℕ → Type 0) (w : CheckWords) (t : Task) (v : Verdict) → ReadsTask told w t
-    → IsJustified most_steps (enough_for t) (obligation_of t) v → (s : Status) (text : List ℕ) → IsText (verdict_status v) (post_report v) s text → CheckEnd told RF w s text
-report_end told RF w t v read justified s text e = inl (record { task = t; read = read; verdict = v; justified = justified; status_is = e.0; text_is = e.1 })
+pub report_end : (told : Option Held) (RF : List ℕ → Type 0) (w : CheckWords) (t : Task) (vs : List Verdict) → ReadsTask told w t
+    → AreJustified w.steps t.program t.sets (owed_in t) vs → (s : Status) (text : List ℕ) → IsText (verdicts_status vs) (report (owed_in t) vs) s text → CheckEnd told RF w s text
+report_end told RF w t vs read justified s text e = inl (record { task = t; read = read; verdicts = vs; justified = justified; status_is = e.0; text_is = e.1 })
 
 pub refused_end : (told : Option Held) (RF : List ℕ → Type 0) (w : CheckWords) (r : Refusal) → CheckCause told RF w r
     → (s : Status) (text : List ℕ) → IsText (refusal_status r) (refusal_text r) s text → CheckEnd told RF w s text
@@ -94,17 +99,18 @@ unplayed_end told RF w r cause s text e = inr (record { refusal = r; cause = cau
 
 -- ---- what a status says
 
-verdict_says : (told : Option Held) (RF : List ℕ → Type 0) (WF : Type 0) (w : CheckWords) (v : Verdict) (text : List ℕ) → IsReport told w (verdict_status v) text
-    → StatusSays told RF WF (Some (Check w)) (verdict_status v) text
-verdict_says told RF WF w verdict.Verified text r = r
-verdict_says told RF WF w (verdict.Refuted x) text r = r
-verdict_says told RF WF w (verdict.GaveUp x) text r = r
+-- a report has one of three statuses
+report_says : (told : Option Held) (RF : List ℕ → Type 0) (WF : Type 0) (w : CheckWords) (refuted given_up : Bool) (text : List ℕ)
+    → IsReport told w (if refuted then status.Refuted else (if given_up then status.GaveUp else status.Good)) text
+    → StatusSays told RF WF (Some (Check w)) (if refuted then status.Refuted else (if given_up then status.GaveUp else status.Good)) text
+report_says told RF WF w true given_up text r = r
+report_says told RF WF w false true text r = r
+report_says told RF WF w false false text r = r
 
 read_failed : (told : Option Held) (RF : List ℕ → Type 0) (w : CheckWords) (r : Refusal) → refusal_status r ≡ status.Read → CheckCause told RF w r → RF w.program ⊎ RF w.sets
-read_failed told RF w (refusal.ReadFault file) e (inl (inl cause)) = inl cause.1
-read_failed told RF w (refusal.ReadFault file) e (inl (inr cause)) = cc
+read_failed told RF w (refusal.ReadFault file) e (inl cause) = inl cause.1
 read_failed told RF w (refusal.ReadFault file) e (inr (inl behind)) = inr behind.then.1
-read_failed told RF w (refusal.ReadFault file) e (inr (inr claims)) = absurd claims.tells
+read_failed told RF w (refusal.ReadFault file) e (inr (inr owing)) = absurd owing.tells
 read_failed told RF w refusal.OutOfMemory e cause = cc
 read_failed told RF w _ e cause = cc
 
@@ -118,7 +124,7 @@ check_says : (told : Option Held) (RF : List ℕ → Type 0) (WF : Type 0) (w : 
     → StatusSays told RF WF (Some (Check w)) s text
 check_says told RF WF w s text (inl r) =
     subst (λ (x : Status). StatusSays told RF WF (Some (Check w)) x text) (sym r.status_is)
-    (verdict_says told RF WF w r.verdict text (subst (λ (x : Status). IsReport told w x text) r.status_is r))
+    (report_says told RF WF w (list_any is_refuted r.verdicts) (list_any is_given_up r.verdicts) text (subst (λ (x : Status). IsReport told w x text) r.status_is r))
 check_says told RF WF w s text (inr r) =
     subst (λ (x : Status). StatusSays told RF WF (Some (Check w)) x text) (sym r.status_is) (refusal_says told RF WF w r.refusal text r.cause)
 
@@ -174,38 +180,46 @@ answer_says told RF WF words _ text a x = absurd a
 
 -- ---- a good report
 
--- it has a true obligation
-good_verdict : (v : Verdict) → status.Good ≡ verdict_status v → v ≡ verdict.Verified
-good_verdict verdict.Verified e = refl
-good_verdict (verdict.Refuted r) e = cc
-good_verdict (verdict.GaveUp w) e = cc
-
-true_of : (limit enough : ℕ) (o : Meaning) (v : Verdict) → status.Good ≡ verdict_status v → IsJustified limit enough o v → IsTrueOf o
-true_of limit enough o v e j = subst (IsJustified limit enough o) (good_verdict v e) j
+-- it has no verdict of another kind
+all_good : (refuted given_up : Bool) → status.Good ≡ (if refuted then status.Refuted else (if given_up then status.GaveUp else status.Good)) → (refuted ≡ false) × (given_up ≡ false)
+all_good true given_up e = absurd (cc e)
+all_good false true e = absurd (cc e)
+all_good false false e = (refl, refl)
 
 same_task : (s t : Task) → s.program ≡ t.program → s.sets ≡ t.sets → s.claims ≡ t.claims → s ≡ t
 same_task s t a b c = λ i. record { program = a i; sets = b i; claims = c i }
 
-asked_is : (x y : Asked) → ◌≡◌ {A = Result Asked ClaimFault} (Ok x) (Ok y) → x ≡ y
+asked_is : (x y : Asked) → ◌≡◌ {A = Result Asked ObligationFault} (Ok x) (Ok y) → x ≡ y
 asked_is x y e = cc
 
 -- two texts say one task
-one_task : (p q : List ℕ) (s t : Task) → IsTask p q s → IsTask p q t → s ≡ t
-one_task p q s t x y =
+one_task : (p q pre post : List ℕ) (s t : Task) → IsTask p q pre post s → IsTask p q pre post t → s ≡ t
+one_task p q pre post s t x y =
     let program : s.program ≡ t.program = one_program p s.program t.program x.program_is y.program_is in
     let sets : s.sets ≡ t.sets = one_sets q s.sets t.sets x.sets_are y.sets_are in
-    same_task s t program sets (asked_is s.claims t.claims (sym x.claims_are ∙ ap₂ claims_asked program sets ∙ y.claims_are))
+    same_task s t program sets (asked_is s.claims t.claims (sym x.claims_are ∙ ap₂ (λ a b. asked a b pre post) program sets ∙ y.claims_are))
 
--- a program of gates alone that meets its obligation is correct
-task_correct : (t : Task) → are_gates t.program.body ≡ true → IsTrueOf (obligation_of t) → IsCorrect (program_of t)
-task_correct t gates holds = gates_only_laws.correct t.program t.sets t.claims (gates_in t.program.body) (body_is t.program.body gates) holds
+-- what elaboration gives is valid, and true obligations make a program correct
+abbrev pub GivesValid : Type 0
+GivesValid = (tree : Tree) (p : Program) → elaborated tree ≡ Ok p → IsValidProgram p
 
-told_task : (told : Option Held) (held : Held) (w : CheckWords) (s t : Task) → told ≡ Some held → ReadsTask told w s → IsTask (bytes_at held w.program) (bytes_at held w.sets) t → s ≡ t
+-- a program that meets its obligations is correct
+task_correct : (limit : ℕ) (t : Task) (text : List ℕ) (vs : List Verdict) → GivesValid → TrueThenCorrect BoundCase → SaysProgram text t.program
+    → AreJustified limit t.program t.sets (owed_in t) vs → status.Good ≡ verdicts_status vs → IsCorrect (program_of t)
+task_correct limit t text vs valid law says fine good =
+    let tests = all_good (list_any is_refuted vs) (list_any is_given_up vs) good in
+    let p = t.program in
+    let a = t.claims in
+    law.correct p.qubits p.bits (length p.claims) (case_of t.sets) (products_in t.sets) a.claims a.before a.after p.body
+    (valid says.tree p says.meaning).body (all_true limit p t.sets (owed_by p a) vs fine tests.0 tests.1)
+
+told_task : (told : Option Held) (held : Held) (w : CheckWords) (s t : Task) → told ≡ Some held → ReadsTask told w s
+    → IsTask (bytes_at held w.program) (bytes_at held w.sets) w.pre w.post t → s ≡ t
 told_task told held w s t e read says =
     let program : read.program ≡ bytes_at held w.program = subst (λ (o : Option Held). MayHold o w.program read.program) e read.program_held in
     let sets : read.sets ≡ bytes_at held w.sets = subst (λ (o : Option Held). MayHold o w.sets read.sets) e read.sets_held in
-    one_task (bytes_at held w.program) (bytes_at held w.sets) s t
-    (subst (λ (b : List ℕ). IsTask b (bytes_at held w.sets) s) program (subst (λ (b : List ℕ). IsTask read.program b s) sets read.says)) says
+    one_task (bytes_at held w.program) (bytes_at held w.sets) w.pre w.post s t
+    (subst (λ (b : List ℕ). IsTask b (bytes_at held w.sets) w.pre w.post s) program (subst (λ (b : List ℕ). IsTask read.program b w.pre w.post s) sets read.says)) says
 
 some_is : (x y : CheckWords) → ◌≡◌ {A = Option Command} (Some (Check x)) (Some (Check y)) → x ≡ y
 some_is x y e = cc
@@ -214,15 +228,15 @@ no_check : (v : ReplayWords) (w : CheckWords) → ◌≡◌ {A = Option Command}
 no_check v w e = cc
 
 -- and its program is correct
-pub report_is_correct : (told : Option Held) (words : Option Command) (text : List ℕ) → IsReportOf told words status.Good text → ToldIsCorrect told words
-report_is_correct told None text r = absurd r
-report_is_correct told (Some (Replay v)) text r = λ held w t told_is words_are says. absurd (no_check v w words_are)
-report_is_correct told (Some (Check v)) text r = λ held w t told_is words_are says.
+pub report_is_correct : (told : Option Held) (words : Option Command) (text : List ℕ) → GivesValid → TrueThenCorrect BoundCase → IsReportOf told words status.Good text → ToldIsCorrect told words
+report_is_correct told None text valid law r = absurd r
+report_is_correct told (Some (Replay v)) text valid law r = λ held w t told_is words_are says. absurd (no_check v w words_are)
+report_is_correct told (Some (Check v)) text valid law r = λ held w t told_is words_are says.
     let same : v ≡ w = some_is v w words_are in
     let read : ReadsTask told w r.task = subst (λ (x : CheckWords). ReadsTask told x r.task) same r.read in
     let task : r.task ≡ t = told_task told held w r.task t told_is read says in
     subst (λ (x : Task). IsCorrect (program_of x)) task
-    (task_correct r.task read.gates (true_of most_steps (enough_for r.task) (obligation_of r.task) r.verdict r.status_is r.justified))
+    (task_correct v.steps r.task r.read.program r.verdicts valid law r.read.says.program_is r.justified r.status_is)
 
 -- ---- a replay
 

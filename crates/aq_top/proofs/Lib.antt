@@ -1,4 +1,4 @@
-pub mod SayLemmas
+pub mod ReportLemmas
 pub mod EndsLemmas
 pub mod ReadsLemmas
 pub mod ReplayLemmas

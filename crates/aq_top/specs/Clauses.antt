@@ -32,7 +32,7 @@ Reports told words before after result =
 -- the program that the told files say is correct
 abbrev pub ToldIsCorrect : Option Held → Option Command → Type 0
 ToldIsCorrect told words = (held : Held) (w : CheckWords) (t : Task) → told ≡ Some held → words ≡ Some (Check w)
-    → IsTask (bytes_at held w.program) (bytes_at held w.sets) t → IsCorrect (program_of t)
+    → IsTask (bytes_at held w.program) (bytes_at held w.sets) w.pre w.post t → IsCorrect (program_of t)
 
 -- Where the words ask for a replay, the sink's bytes grew by the text of the end of the run: of the program that the one
 -- file says, from the one vector of the set that is named of those that the other says, all bits 0, with the outcomes asked

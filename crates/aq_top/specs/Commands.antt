@@ -1,9 +1,10 @@
 -- The commands, and how each ends.
-use Rattle.std.specs.Prelude.{◌≡◌, ℕ, List, [], ◌∷◌, Option, Some, None, codes, if◌then◌else◌}
+use Rattle.std.specs.Prelude.{◌≡◌, ℕ, List, [], ◌≤◌, ◌∷◌, Option, Some, None, codes, if◌then◌else◌}
 use Rattle.std.specs.Option.{option_map}
+use Rattle.aq_base.specs.Limits.{most_steps_asked}
 use Rattle.std.specs.Str.{bytes_eq}
 use Rattle.aq_world.specs.Held.{Held}
-use Rattle.aq_top.specs.Check.{CheckWords, CheckEnd, check_words, files_of}
+use Rattle.aq_top.specs.Check.{CheckWords, CheckEnd, check_words, check_asked}
 use Rattle.aq_top.specs.Lines.{usage_text}
 use Rattle.aq_top.specs.Replay.{ReplayWords, ReplayEnd, replay_words, asked_by}
 use Rattle.aq_top.specs.declared.command.Command.{Command as GivenCommand}
@@ -24,8 +25,13 @@ command_asked (first ∷ rest) =
 
 -- the command that the code keeps
 abbrev pub command_of : GivenCommand → Command
-command_of (given.Check words) = Check (files_of words)
+command_of (given.Check words) = Check (check_asked words)
 command_of (given.Replay words) = Replay (asked_by words)
+
+-- the limit of steps is one that may be asked for
+abbrev pub IsInRange : GivenCommand → Type 0
+IsInRange (given.Check words) = words.steps ≤ most_steps_asked
+IsInRange (given.Replay words) = Unit {0}
 
 -- A whole output of a run, with the status that goes with it.
 abbrev pub RunEnd : Option Held → (List ℕ → Type 0) → Option Command → Status → List ℕ → Type 0

@@ -45,7 +45,7 @@ abbrev pub IsText : Status → List ℕ → Status → List ℕ → Type 0
 IsText wanted whole result text = (result ≡ wanted) × (text ≡ whole)
 
 -- the status after a call that prints a whole text
-abbrev pub status_of : Result (Unit {0}) SinkFault → Status → Status
+abbrev pub status_of : {T : Type 0} → Result T SinkFault → Status → Status
 status_of (Ok x) wanted = wanted
 status_of (Err fault.Failed) wanted = status.Write
 status_of (Err fault.Memory) wanted = status.Memory

@@ -1,3 +1,4 @@
+pub mod Judging
 pub mod Check
 pub mod Clauses
 pub mod Codes

@@ -1,7 +1,7 @@
-ghost use Rattle.std.specs.Prelude.{◌≡◌, map};
+ghost use Rattle.std.specs.Prelude.{◌≡◌, IfSome, map};
 ghost use Rattle.std.specs.Option.{option_map};
 ghost use Rattle.std.specs.String.{string_bytes};
-ghost use Rattle.aq_top.specs.Commands.{command_asked, command_of};
+ghost use Rattle.aq_top.specs.Commands.{IsInRange, command_asked, command_of};
 
 use crate::check::{CheckWords, check_words};
 use crate::replay::{ReplayWords, replay_words};
@@ -17,7 +17,8 @@ pub(crate) enum Command<'a> {
 
 /// The command that the words ask for. The first word picks it.
 pub(crate) fn command_asked<'a>(words: &'a [String]) -> Option<Command<'a>>
-    ensures { option_map command_of result ≡ command_asked (map string_bytes words.entry.now) }
+    ensures command { option_map command_of result ≡ command_asked (map string_bytes words.entry.now) }
+    ensures range { IfSome result IsInRange }
 {
     match words {
         [first, rest @ ..] => {

@@ -5,6 +5,7 @@
 mod check;
 mod command;
 mod honest;
+mod judging;
 mod outcomes;
 mod program;
 mod read;

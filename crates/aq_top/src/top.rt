@@ -2,7 +2,7 @@ ghost use Rattle.std.specs.Prelude.{◌≡◌, map, None, Some};
 ghost use Rattle.std.specs.String.{string_bytes};
 ghost use Rattle.aq_world.specs.Causes.{Rose};
 ghost use Rattle.aq_top.specs.Clauses.{IsAnswer, Reports, ToldIsCorrect, TellsTheRun, ReadsFailed};
-ghost use Rattle.aq_top.specs.Commands.{RunEnd, command_asked, command_of};
+ghost use Rattle.aq_top.specs.Commands.{IsInRange, RunEnd, command_asked, command_of};
 ghost use Rattle.aq_top.specs.Ends.{Ends};
 ghost use Rattle.aq_top.specs.Reads.{ReadFailedOf};
 
@@ -11,6 +11,8 @@ use crate::command::{Command, command_asked};
 use crate::replay::replay;
 use crate::say::say_usage;
 use crate::status::Status;
+use aq_correct::laws::obligations;
+use aq_elab::elaborations;
 use aq_world::{Shelf, Sink};
 use std::alloc::Global;
 
@@ -21,6 +23,7 @@ fn obey<S: Shelf, K: Sink>(
     shelf: &mut S,
     out: &mut K,
 ) -> Status
+    requires { IsInRange command }
     ensures ends { Ends K.meaning out.old out.new (RunEnd (S.meaning.holds shelf.old)
         (ReadFailedOf S.meaning shelf.old shelf.new) (Some (command_of command.entry))) result }
     ensures held { S.meaning.holds shelf.new ≡ S.meaning.holds shelf.old }
@@ -74,5 +77,7 @@ pub fn run<S: Shelf, K: Sink>(alloc: Global, words: &[String], shelf: &mut S, ou
     // No file changes.
     ensures shelf_stays { S.meaning.holds shelf.new ≡ S.meaning.holds shelf.old }
 {
+    elaborations();
+    obligations();
     answer(alloc, words, shelf, out)
 }

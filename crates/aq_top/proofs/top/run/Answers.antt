@@ -9,7 +9,7 @@ returns-clause-report_is_justified g c answer =
 pub returns-clause-all_verified_implies_correct : goal.returns-clause-all_verified_implies_correct
 returns-clause-all_verified_implies_correct g c good =
     let says = status_says _ _ _ _ _ _ _ c.answer.ensures.ends in
-    report_is_correct _ _ _ (at_status _ _ _ _ _ _ _ good says.2)
+    report_is_correct _ _ _ c.elaborations.ensures.valid c.obligations.ensures.correct (at_status _ _ _ _ _ _ _ good says.2)
 
 pub returns-clause-replay_is_the_run : goal.returns-clause-replay_is_the_run
 returns-clause-replay_is_the_run g c good =

@@ -1,0 +1,43 @@
+-- The verdicts of a report: the status that goes with them, and what was written of them.
+use Rattle.std.specs.Prelude.{◌≡◌, ℕ, List, Result, IfOk, count_by, if◌then◌else◌}
+use Rattle.std.specs.List.{list_any}
+use Rattle.aq_prog.specs.declared.program.Program.{Program}
+use Rattle.aq_sets.specs.declared.sets.Sets.{Sets}
+use Rattle.aq_world.specs.Prints.{Prints}
+use Rattle.aq_world.specs.Sinks.{SinkMeaning}
+use Rattle.aq_world.specs.declared.sink.SinkFault.{SinkFault}
+use Rattle.aq_obligations.specs.declared.bound.Obligation.{Obligation}
+use Rattle.aq_report.specs.Texts.{is_verified, is_refuted, is_given_up}
+use Rattle.aq_report.specs.Verdicts.{AreJustified}
+use Rattle.aq_report.specs.declared.verdict.Verdict.{Verdict}
+use Rattle.aq_top.specs.Ends.{Ends, IsText}
+use Rattle.aq_top.specs.declared.judging.Tally.{Tally}
+use Rattle.aq_top.specs.declared.status.Status.{Status}
+use Rattle.aq_top.specs.declared.status.Status.TheVariants as status
+
+-- the status of a report: refuted where some verdict is, else gave up where some obligation was given up
+abbrev pub verdicts_status : List Verdict → Status
+verdicts_status verdicts =
+    if list_any is_refuted verdicts then status.Refuted else (if list_any is_given_up verdicts then status.GaveUp else status.Good)
+
+-- it counts the verdicts
+pub record IsTally (t : Tally) (verdicts : List Verdict) : Type 0 where
+  pub verified : t.verified ≡ count_by is_verified verdicts
+  pub refuted : t.refuted ≡ count_by is_refuted verdicts
+  pub gave_up : t.gave_up ≡ count_by is_given_up verdicts
+
+-- There is a justified verdict for each obligation, and what was printed is a text of the verdicts, which are counted where all was
+-- printed.
+pub record PrintsVerdicts {S : Type 0} (sink : SinkMeaning S) (old new : S) (limit : ℕ) (p : Program) (s : Sets) (os : List Obligation) (text : List Verdict → List ℕ)
+    (result : Result Tally SinkFault) : Type 0 where
+  pub verdicts : List Verdict
+  pub justified : AreJustified limit p s os verdicts
+  pub prints : Prints sink old new result (text verdicts)
+  pub counts : IfOk result (λ t. IsTally t verdicts)
+
+-- There is a justified verdict for each obligation, and the run ended with a text of the verdicts.
+pub record EndsWithVerdicts {S : Type 0} (sink : SinkMeaning S) (old new : S) (limit : ℕ) (p : Program) (s : Sets) (os : List Obligation) (text : List Verdict → List ℕ)
+    (result : Status) : Type 0 where
+  pub verdicts : List Verdict
+  pub justified : AreJustified limit p s os verdicts
+  pub ends : Ends sink old new (IsText (verdicts_status verdicts) (text verdicts)) result
