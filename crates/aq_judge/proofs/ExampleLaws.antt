@@ -112,8 +112,8 @@ if_one g x lt small = record {
   uncut = branch_cuts (stmt.If g (x ∷ []) []) g (x ∷ []) [] refl ∙ ap (λ (b : Bool). (b || false) || false) small.uncut;
 }
 
-pub if_small : (g : Guard) (x : Stmt) (yes no : List Stmt) → yes ≡ x ∷ [] → no ≡ [] → g.bit < 1 → IsSmallStmt x → IsSmallStmt (stmt.If g yes no)
-if_small g x yes no e f lt small = subst IsSmallStmt (λ i. stmt.If g (sym e i) (sym f i)) (if_one g x lt small)
+pub if_small : (g : Guard) (x : Stmt) (when_true when_false : List Stmt) → when_true ≡ x ∷ [] → when_false ≡ [] → g.bit < 1 → IsSmallStmt x → IsSmallStmt (stmt.If g when_true when_false)
+if_small g x when_true when_false e f lt small = subst IsSmallStmt (λ i. stmt.If g (sym e i) (sym f i)) (if_one g x lt small)
 
 all_uncut : (body : List Stmt) → AllByRecursion IsSmallStmt body → AreUncut body
 all_uncut [] a = refl

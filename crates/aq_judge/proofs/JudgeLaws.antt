@@ -19,7 +19,7 @@ use Rattle.aq_obligations.specs.declared.bound.BoundCase.{BoundCase}
 use Rattle.aq_obligations.specs.declared.bound.Obligation.{Obligation}
 use Rattle.aq_correct.specs.WorldLaws.{worlds_of}
 use Rattle.aq_correct.proofs.WorldProofs.{worlds_cover_runs, worlds_decide, worlds_compare}
-use Rattle.aq_report.specs.Verdicts.{IsJustified, IsRefutedBy, shown_by}
+use Rattle.aq_report.specs.Verdicts.{IsRefutedBy, shown_by}
 use Rattle.aq_report.specs.declared.verdict.Refutation.{Refutation}
 use Rattle.aq_worlds.specs.Asked.{CanBeJudged}
 use Rattle.aq_worlds.specs.Playing.{AreSized, IsSized, amps_of, world_of}

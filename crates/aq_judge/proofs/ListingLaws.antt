@@ -1,5 +1,5 @@
 -- The vectors that cases list.
-use Rattle.std.proofs.Common.{◌≡◌, ℕ, zero, suc, ◌+◌, ◌<◌, Bool, true, false, not, List, [], ◌∷◌, ◌++◌, map, All, Contains, length, take, get_or, Option, Some, None, unwrap_or, if◌then◌else◌, refl, ap, sym, ◌∙◌, subst, arith, inl, inr}
+use Rattle.std.proofs.Common.{◌≡◌, ℕ, zero, suc, ◌+◌, ◌<◌, Bool, true, false, not, List, [], ◌∷◌, ◌++◌, Contains, length, take, get_or, Option, Some, None, unwrap_or, if◌then◌else◌, refl, ap, sym, ◌∙◌, subst, arith, inr}
 use Rattle.std.specs.Prelude.{slice_get, option_map}
 use Rattle.std.specs.Option.{option_map_or}
 use Rattle.std.proofs.lemmas.List.{map-append, length-map}
@@ -14,7 +14,7 @@ use Rattle.aq_sets.specs.Vectors.{vectors_of, products_of}
 use Rattle.aq_sets.specs.declared.sets.Sets.{Sets}
 use Rattle.aq_plain.specs.Listing.{states_of}
 use Rattle.aq_plain.specs.Vectors.{StateVector}
-use Rattle.aq_obligations.specs.Asking.{case_of, cases_of, products_in, meaning_of}
+use Rattle.aq_obligations.specs.Asking.{case_of, products_in, meaning_of}
 use Rattle.aq_obligations.specs.Bound.{IsBoundCase}
 use Rattle.aq_obligations.specs.Covering.{matches}
 use Rattle.aq_obligations.specs.Wide.{IsWide}
@@ -26,7 +26,7 @@ use Rattle.aq_worlds.specs.Playing.{AreOn, StopsFor, amps_of}
 use Rattle.aq_worlds.specs.declared.stop.Stop.{Stop}
 use Rattle.aq_worlds.specs.declared.stop.Stop.TheVariants as stop
 use Rattle.aq_judge.specs.declared.listing.GoalCase.{GoalCase}
-use Rattle.aq_judge.specs.Listing.{AreGoal, HasWide, IsGoalOn, case_states, claim_of, claims_of}
+use Rattle.aq_judge.specs.Listing.{AreGoal, HasWide, case_states, claim_of}
 use Rattle.aq_judge.proofs.SearchLaws.{all_one, take_more}
 
 -- what a part stops for, the whole stops for

@@ -1,12 +1,10 @@
 -- What is shown of a world's vector is of the run that leads to it.
-use Rattle.std.proofs.Common.{◌≡◌, ℕ, zero, suc, ◌<◌, Bool, List, [], ◌∷◌, ◌++◌, All, Contains, length, Option, Some, refl, ap, sym, ◌∙◌, subst, arith, inl}
+use Rattle.std.proofs.Common.{◌≡◌, ℕ, ◌<◌, Bool, List, Contains, length, Some, refl, ap, sym, ◌∙◌, subst, arith, inl}
 use Rattle.std.specs.Prelude.{slice_get}
 use Rattle.std.proofs.lemmas.List.{length-map}
 use Rattle.std.proofs.lemmas.List.Elements.{All-contains}
 use Rattle.std.proofs.lemmas.Option.{slice_get_within}
-use Rattle.aq_ring.specs.Fractions.{Amplitude}
 use Rattle.aq_ring.specs.Vectors.{IsZeroVector}
-use Rattle.aq_prog.specs.Programs.{IsValidStmt}
 use Rattle.aq_prog.specs.Runs.{State}
 use Rattle.aq_prog.specs.declared.program.Program.{Program}
 use Rattle.aq_prog.specs.declared.stmt.Stmt.{Stmt}
@@ -24,7 +22,6 @@ use Rattle.aq_obligations.specs.declared.bound.BoundCase.{BoundCase}
 use Rattle.aq_obligations.specs.declared.bound.Obligation.{Obligation}
 use Rattle.aq_correct.specs.WorldLaws.{HasEnd}
 use Rattle.aq_correct.proofs.WorldProofs.{worlds_cover_runs}
-use Rattle.aq_report.specs.declared.verdict.Refutation.{Refutation}
 use Rattle.aq_worlds.specs.Asked.{CanBeJudged}
 use Rattle.aq_worlds.specs.Playing.{world_of}
 use Rattle.aq_worlds.specs.declared.world.PlainWorld.{PlainWorld}

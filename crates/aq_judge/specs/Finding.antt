@@ -3,7 +3,7 @@ use Rattle.std.specs.Prelude.{◌≡◌, ℕ, Bool, true, List, ◌∷◌, ◌++
 use Rattle.aq_ring.specs.Fractions.{Amplitude}
 use Rattle.aq_ring.specs.Amplitudes.{FitsAmplitudeProduct}
 use Rattle.aq_ring.specs.Vectors.{IsZeroVector, Proportional}
-use Rattle.aq_obligations.specs.Claims.{ClaimCase, are_met, CaseHolds, Holds}
+use Rattle.aq_obligations.specs.Claims.{ClaimCase, are_met, Holds}
 use Rattle.aq_judge.specs.declared.compare.Found.{Found}
 use Rattle.aq_judge.specs.declared.compare.Found.TheVariants as found
 use Rattle.aq_judge.specs.declared.find.Place.{Place}

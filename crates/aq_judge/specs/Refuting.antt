@@ -1,5 +1,5 @@
 -- What is shown of a world whose vectors aren't all kept, and what is told of the worlds of cases.
-use Rattle.std.specs.Prelude.{◌≡◌, ℕ, Bool, List, ◌∷◌, ◌++◌, All, Contains, length, Option, Some, None, slice_get}
+use Rattle.std.specs.Prelude.{◌≡◌, ℕ, List, ◌∷◌, ◌++◌, All, Contains, length, Option, Some, None, slice_get}
 use Rattle.aq_ring.specs.Fractions.{Amplitude}
 use Rattle.aq_ring.specs.Vectors.{IsZeroVector}
 use Rattle.aq_prog.specs.Cuts.{AreUncut}

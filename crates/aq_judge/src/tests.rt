@@ -245,12 +245,7 @@ fn obligation(
 }
 
 /// What is said of the obligation, where the expressions have this amplitude.
-fn verdict_of(
-    alloc: Global,
-    amp: Amp,
-    obligation: &Obligation,
-    limit: u64,
-) -> Result<Verdict, Fail>
+fn verdict_of(alloc: Global, amp: Amp, obligation: &Obligation, limit: u64) -> Result<Verdict, Fail>
     requires small { IsSmallObligation obligation.now }
     requires limit { limit ≤ 1000000000 }
 {
@@ -291,7 +286,11 @@ fn told_by(verdict: &Verdict) -> Said {
             let end = state_of(shown.end_bits.as_slice(), shown.end.amps());
             let outcome = shown.outcomes.as_slice().first().copied();
             match (state, end) {
-                (Some(state), Some(end)) => Said::Refuted(Run { state, outcome, end }),
+                (Some(state), Some(end)) => Said::Refuted(Run {
+                    state,
+                    outcome,
+                    end,
+                }),
                 _ => Said::Odd,
             }
         }
@@ -422,10 +421,16 @@ fn steps_up_to_the_limit(rt: HostRuntime) -> Result<(), Fail> {
     let flip = &[Part::Gate(b"x")];
     let plain = obligation(alloc, From::Start, flip, &[(0, None)], &[(1, None)])?;
     assert_eq!(rt; told_by(&verdict_of(alloc, one, &plain, 223)?), steps);
-    assert_eq!(rt; told_by(&verdict_of(alloc, one, &plain, 224)?), Said::Verified);
+    assert_eq!(rt;
+        told_by(&verdict_of(alloc, one, &plain, 224)?),
+        Said::Verified
+    );
     let split = obligation(alloc, From::Start, flip, &[(0, Some(true))], &[(1, None)])?;
     assert_eq!(rt; told_by(&verdict_of(alloc, one, &split, 319)?), steps);
-    assert_eq!(rt; told_by(&verdict_of(alloc, one, &split, 320)?), Said::Verified);
+    assert_eq!(rt;
+        told_by(&verdict_of(alloc, one, &split, 320)?),
+        Said::Verified
+    );
     Ok(())
 }
 
@@ -437,7 +442,10 @@ fn outcomes_one_by_one(rt: HostRuntime) -> Result<(), Fail> {
     let toss = &[Part::Gate(b"h"), Part::Measurement];
     let by_bit = &[(0, Some(false)), (1, Some(true))];
     let told = obligation(alloc, From::Start, toss, &[(0, None)], by_bit)?;
-    assert_eq!(rt; told_by(&verdict_of(alloc, one, &told, LIMIT)?), Said::Verified);
+    assert_eq!(rt;
+        told_by(&verdict_of(alloc, one, &told, LIMIT)?),
+        Said::Verified
+    );
     let zero = obligation(alloc, From::Start, toss, &[(0, None)], &[(0, None)])?;
     let refuted = Said::Refuted(Run {
         state: (false, Amp::zero()),
@@ -462,6 +470,9 @@ fn bits_that_are_open(rt: HostRuntime) -> Result<(), Fail> {
     assert_eq!(rt; told_by(&verdict_of(alloc, one, &open, LIMIT)?), refuted);
     let zero = From::Claim(Some(false));
     let known = obligation(alloc, zero, flip, &[(0, None)], &[(0, None)])?;
-    assert_eq!(rt; told_by(&verdict_of(alloc, one, &known, LIMIT)?), Said::Verified);
+    assert_eq!(rt;
+        told_by(&verdict_of(alloc, one, &known, LIMIT)?),
+        Said::Verified
+    );
     Ok(())
 }

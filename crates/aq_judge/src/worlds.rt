@@ -48,8 +48,9 @@ fn judge_worlds(
             Place::Kept => {}
             Place::Unclear => return Err(Stop::Width),
             Place::Lost(place) => {
-                let shown =
-                    refutation(alloc, program, sets, sizes, obligation, case, world, place)?;
+                let shown = refutation(
+                    alloc, program, sets, sizes, obligation, case, world, place,
+                )?;
                 return Ok(Some(shown));
             }
         }
@@ -78,7 +79,16 @@ fn judge_case(
     let list = case_states(alloc, sets, sizes, case)?;
     let vectors = into_vec(alloc, list)?;
     let worlds = worlds_of_case(alloc, program, sets, obligation, case, vectors)?;
-    judge_worlds(alloc, program, sets, sizes, obligation, case, goal, worlds.as_slice())
+    judge_worlds(
+        alloc,
+        program,
+        sets,
+        sizes,
+        obligation,
+        case,
+        goal,
+        worlds.as_slice(),
+    )
 }
 
 /// Judges the worlds of all cases, in order.

@@ -21,7 +21,7 @@ loop-case-preserved c =
     let i = c.loop-case.case-index in
     let x = c.case-item.result in
     elim c.match-find_in_case.branch [
-      in-Nothing w ↦ subst (λ (b : Bool). SoFar Is IsWide b all done) (sym w.wide-is)
+      | in-Nothing w ↦ subst (λ (b : Bool). SoFar Is IsWide b all done) (sym w.wide-is)
           (nothing_here Is IsWide claim_of c.args.goal.now c.loop-case.wide i x c.loop-case-test.true c.case-item.is w.in-Nothing.ensures c.loop-case.invariant)
-    | in-Unclear w ↦ subst (λ (b : Bool). SoFar Is IsWide b all done) (sym w.wide-is) (any_at IsWide claim_of c.args.goal.now i x c.loop-case-test.true c.case-item.is w.in-Unclear.ensures)
+      | in-Unclear w ↦ subst (λ (b : Bool). SoFar Is IsWide b all done) (sym w.wide-is) (any_at IsWide claim_of c.args.goal.now i x c.loop-case-test.true c.case-item.is w.in-Unclear.ensures)
     ]

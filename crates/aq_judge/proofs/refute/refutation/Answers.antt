@@ -1,4 +1,4 @@
-use Rattle.std.proofs.Common.{List, Bool, ◌∙◌, ap, refl, subst}
+use Rattle.std.proofs.Common.{List, Bool, ◌∙◌, ap, subst}
 use Rattle.std.proofs.lemmas.Result.{err_from_is_err_and}
 use Rattle.aq_sets.specs.Vectors.{products_of}
 use Rattle.aq_plain.specs.Replaying.{start_of}
