@@ -1,9 +1,8 @@
--- A program, sets and cases to try the judge on are valid.
-use Rattle.std.proofs.Common.{◌≡◌, ℕ, zero, suc, ◌<◌, ◌≤◌, true, ◌&&◌, Option, List, [], ◌∷◌, All, length, Some, refl, sym, ap, ◌∙◌, subst, arith}
+-- A program, sets and obligations to try the judge on are valid.
+use Rattle.std.proofs.Common.{◌≡◌, ℕ, zero, suc, ◌<◌, ◌≤◌, Bool, false, ◌||◌, Option, List, [], ◌∷◌, All, length, get_or, Some, IfSome, ap₂, refl, sym, ap, ◌∙◌, subst, arith}
 use Rattle.std.specs.Prelude.{slice_get}
-use Rattle.std.specs.List.{IsDistinct}
-use Rattle.std.specs.Option.{is_some}
-use Rattle.std.proofs.lemmas.List.Elements.{All-cons, All-nil}
+use Rattle.std.specs.List.{AllByRecursion, IsDistinct}
+use Rattle.std.proofs.lemmas.List.Elements.{All-cons, All-nil, recursion_from_All}
 use Rattle.aq_ring.specs.Fractions.{Amplitude}
 use Rattle.aq_prog.specs.Gates.{IsValidGate}
 use Rattle.aq_prog.specs.Programs.{IsValidProgram, IsValidStmt, IsValidLevel}
@@ -15,16 +14,19 @@ use Rattle.aq_prog.specs.declared.stmt.Stmt.TheViews.{roll-Stmt}
 use denote.Hole.Carrier.{roll}
 use Rattle.aq_prog.specs.declared.stmt.Stmt.TheVariants as stmt
 use Rattle.aq_prog.specs.declared.stmt.Stmt.TheOpen.{Stmt-F}
-use Rattle.aq_prog.specs.declared.stmt.Stmt.TheFolds.{fold-roll-Stmt}
+use Rattle.aq_prog.specs.declared.stmt.Guard.{Guard}
+use Rattle.aq_prog.specs.Cuts.{cut_step, AreUncut}
+use Rattle.aq_prog.proofs.CutLaws.{branch_cuts}
+use Rattle.aq_prog.proofs.StmtLaws.{fold-gate, fold-measure}
 use Rattle.aq_sets.specs.Sizes.{size_of}
 use Rattle.aq_sets.specs.Valid.{IsValidExpr, IsValidSets, IsValidClaim}
 use Rattle.aq_sets.specs.declared.sets.Expr.{Expr}
 use Rattle.aq_sets.specs.declared.sets.Sets.{Sets}
 use Rattle.aq_sets.specs.declared.sets.Term.{Term}
-use Rattle.aq_obligations.specs.Bound.{IsBoundCase}
+use Rattle.aq_obligations.specs.Bound.{IsBoundCase, IsBoundObligation}
+use Rattle.aq_obligations.specs.declared.bound.Obligation.{Obligation}
 use Rattle.aq_obligations.specs.declared.bound.BoundCase.{BoundCase}
-use Rattle.aq_judge.specs.Bodies.{are_gates, gate_in, gate_step}
-use Rattle.aq_judge.specs.Examples.{IsOneGate, table, IsSmallCase}
+use Rattle.aq_judge.specs.Examples.{IsSmallCase, IsSmallObligation, IsSmallStmt, table}
 
 -- ---- the sets
 
@@ -72,29 +74,50 @@ valid_sets a s e f g = subst IsValidSets (λ i. record { exprs = sym e i; sets =
 })
 
 -- ---- the program
+abbrev program_of : List BitRegister → Program
+program_of registers = record { qubits = 1; bits = 1; registers = registers; claims = []; body = [] }
 
-gate_valid : (g : Gate) → IsValidGate 1 g → IsValidStmt 1 1 0 (stmt.Gate g)
-unfolding roll-Stmt roll
-gate_valid g v = every_made-Stmt (IsValidLevel 1 1 0) (Stmt-F.Gate g) (Stmt-F.Gate g) refl v
-
-abbrev program_of : List BitRegister → List Stmt → Program
-program_of registers body = record { qubits = 1; bits = 1; registers = registers; claims = []; body = body }
-
-pub valid_program : (r : BitRegister) (body : List Stmt) → IsOneGate body → r.first ≡ 0 → r.size ≡ 1 → IsValidProgram (program_of (r ∷ []) body)
+pub valid_program : (r : BitRegister) → r.first ≡ 0 → r.size ≡ 1 → IsValidProgram (program_of (r ∷ []))
 unfolding IsDistinct
-valid_program r body one first size = record {
+valid_program r first size = record {
   qubits = omega arith;
   bits = omega arith;
   names = (tt, tt);
   row = (first, omega (arith, size), omega (arith, first, size));
-  body = subst (λ (l : List Stmt). All (IsValidStmt 1 1 0) l) (sym one.body_is) (All-cons (IsValidStmt 1 1 0) (stmt.Gate one.gate) [] (gate_valid one.gate one.valid) (All-nil (IsValidStmt 1 1 0)));
+  body = All-nil (IsValidStmt 1 1 0);
 }
 
-one_gate : (g : Gate) → are_gates (stmt.Gate g ∷ []) ≡ true
-one_gate g = ap (λ o. is_some o && true) (ap gate_in (sym (stmt.rolls-Gate g)) ∙ fold-roll-Stmt (Option Gate) gate_step (Stmt-F.Gate g))
+-- ---- the statements
+gate_valid : (g : Gate) → IsValidGate 1 g → IsValidStmt 1 1 0 (stmt.Gate g)
+unfolding roll-Stmt roll
+gate_valid g v = every_made-Stmt (IsValidLevel 1 1 0) (Stmt-F.Gate g) (Stmt-F.Gate g) refl v
 
-pub is_gates : (body : List Stmt) → IsOneGate body → are_gates body ≡ true
-is_gates body one = ap are_gates one.body_is ∙ one_gate one.gate
+pub gate_small : (g : Gate) → IsValidGate 1 g → IsSmallStmt (stmt.Gate g)
+gate_small g v = record { valid = gate_valid g v; uncut = fold-gate Bool cut_step g }
+
+measure_valid : IsValidStmt 1 1 0 (stmt.Measure 0 (Some 0))
+unfolding roll-Stmt roll
+measure_valid = every_made-Stmt (IsValidLevel 1 1 0) (Stmt-F.Measure 0 (Some 0)) (Stmt-F.Measure 0 (Some 0)) refl (omega arith, omega arith)
+
+pub measure_small : IsSmallStmt (stmt.Measure 0 (Some 0))
+measure_small = record { valid = measure_valid; uncut = fold-measure Bool cut_step 0 (Some 0) }
+
+if_valid : (g : Guard) (x : Stmt) → g.bit < 1 → IsValidStmt 1 1 0 x → IsValidStmt 1 1 0 (stmt.If g (x ∷ []) [])
+unfolding roll-Stmt roll
+if_valid g x lt v = every_made-Stmt (IsValidLevel 1 1 0) (Stmt-F.If g (x ∷ []) []) (Stmt-F.If g ((x, v) ∷ []) []) refl lt
+
+if_one : (g : Guard) (x : Stmt) → g.bit < 1 → IsSmallStmt x → IsSmallStmt (stmt.If g (x ∷ []) [])
+if_one g x lt small = record {
+  valid = if_valid g x lt small.valid;
+  uncut = branch_cuts (stmt.If g (x ∷ []) []) g (x ∷ []) [] refl ∙ ap (λ (b : Bool). (b || false) || false) small.uncut;
+}
+
+pub if_small : (g : Guard) (x : Stmt) (when_true when_false : List Stmt) → when_true ≡ x ∷ [] → when_false ≡ [] → g.bit < 1 → IsSmallStmt x → IsSmallStmt (stmt.If g when_true when_false)
+if_small g x when_true when_false e f lt small = subst IsSmallStmt (λ i. stmt.If g (sym e i) (sym f i)) (if_one g x lt small)
+
+all_uncut : (body : List Stmt) → AllByRecursion IsSmallStmt body → AreUncut body
+all_uncut [] a = refl
+all_uncut (s ∷ body) a = ap₂ (λ (x y : Bool). x || y) a.0.uncut (all_uncut body a.1)
 
 -- ---- the cases
 
@@ -107,3 +130,16 @@ bound_cases a p s cases e q b small = λ k d h. bound (small k d h)
       qubits = subst (λ (l : List Expr). (size_of l c.set).qubits ≡ p.qubits) (sym e) (one_qubit a c.set i.there ∙ sym q);
       bits = subst (λ (m : ℕ). All (λ g. g.bit < m) c.when) (sym b) i.bits;
     }
+
+pub bound : (a : Amplitude) (p : Program) (s : Sets) (o : Obligation) → s.exprs ≡ table a → p.qubits ≡ 1 → p.bits ≡ 1 → length p.claims ≡ 0 → IsSmallObligation o → IsBoundObligation p s o
+bound a p s o e q b k small = record {
+  from = bound_cases a p s o.from e q b small.from;
+  given = subst (λ (m : ℕ). IfSome o.given (λ g. g.bit < m)) (sym b) small.given;
+  fragment = valid_all;
+  uncut = all_uncut o.fragment (recursion_from_All IsSmallStmt o.fragment small.fragment);
+  goal = bound_cases a p s o.goal.cases e q b small.goal;
+}
+  where
+    valid_all : All (IsValidStmt p.qubits p.bits (length p.claims)) o.fragment
+    valid_all = λ i d h. subst (λ (n : ℕ). IsValidStmt n p.bits (length p.claims) (get_or o.fragment i d)) (sym q)
+        (subst (λ (m : ℕ). IsValidStmt 1 m (length p.claims) (get_or o.fragment i d)) (sym b) (subst (λ (c : ℕ). IsValidStmt 1 1 c (get_or o.fragment i d)) (sym k) (small.fragment i d h).valid))

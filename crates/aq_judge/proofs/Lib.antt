@@ -1,8 +1,7 @@
-pub mod PlayLaws
+pub mod SearchLaws
 pub mod CompareLaws
-pub mod FindLaws
-pub mod StmtLaws
-pub mod KeptLaws
-pub mod MetLaws
-pub mod VerdictLaws
+pub mod ListingLaws
+pub mod RunLaws
+pub mod ShowLaws
+pub mod JudgeLaws
 mod ExampleLaws

@@ -1,20 +1,19 @@
--- Programs, sets and cases to try the judge on.
-use Rattle.std.specs.Prelude.{◌≡◌, ℕ, ◌<◌, List, [], ◌∷◌, All}
+-- Obligations and sets to try the judge on.
+use Rattle.std.specs.Prelude.{◌≡◌, ℕ, ◌<◌, false, List, [], ◌∷◌, All, IfSome}
 use Rattle.aq_ring.specs.Fractions.{Amplitude}
 use Rattle.aq_ring.specs.Amplitudes.{amplitude_one}
-use Rattle.aq_prog.specs.Gates.{IsValidGate}
-use Rattle.aq_prog.specs.declared.gate.Gate.{Gate}
+use Rattle.aq_prog.specs.Cuts.{has_cut}
+use Rattle.aq_prog.specs.Programs.{IsValidStmt}
 use Rattle.aq_prog.specs.declared.stmt.Stmt.{Stmt}
-use Rattle.aq_prog.specs.declared.stmt.Stmt.TheVariants as stmt
 use Rattle.aq_sets.specs.declared.sets.Expr.{Expr}
 use Rattle.aq_sets.specs.declared.sets.Expr.TheVariants as expr
 use Rattle.aq_obligations.specs.declared.bound.BoundCase.{BoundCase}
+use Rattle.aq_obligations.specs.declared.bound.Obligation.{Obligation}
 
--- one gate on one qubit
-pub record IsOneGate (body : List Stmt) : Type 0 where
-  pub gate : Gate
-  pub body_is : body ≡ stmt.Gate gate ∷ []
-  pub valid : IsValidGate 1 gate
+-- a statement on one qubit and one bit that is no cut
+pub record IsSmallStmt (s : Stmt) : Type 0 where
+  pub valid : IsValidStmt 1 1 0 s
+  pub uncut : has_cut s ≡ false
 
 abbrev pub one_ket : ℕ → Amplitude → Expr
 one_ket index a = expr.Kets 1 (record { index = index; amp = a } ∷ [])
@@ -30,3 +29,10 @@ table a = one_ket 0 amplitude_one ∷ one_ket 1 a ∷ expr.All 1 ∷ expr.Union 
 pub record IsSmallCase (c : BoundCase) : Type 0 where
   pub there : c.set < 6
   pub bits : All (λ g. g.bit < 1) c.when
+
+-- an obligation of such cases and statements
+pub record IsSmallObligation (o : Obligation) : Type 0 where
+  pub from : All IsSmallCase o.from
+  pub given : IfSome o.given (λ g. g.bit < 1)
+  pub fragment : All IsSmallStmt o.fragment
+  pub goal : All IsSmallCase o.goal.cases

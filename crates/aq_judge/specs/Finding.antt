@@ -1,35 +1,13 @@
--- What the parts of the judge find, on plain lists of vectors.
-use Rattle.std.specs.Prelude.{◌≡◌, ℕ, Bool, true, false, List, [], ◌∷◌, ◌++◌, map, All, Any, Contains, ◌⊎◌}
+-- What is found of a vector, and of the vectors of a world.
+use Rattle.std.specs.Prelude.{◌≡◌, ℕ, Bool, true, List, ◌∷◌, ◌++◌, All, Any, Contains, length, ◌⊎◌}
 use Rattle.aq_ring.specs.Fractions.{Amplitude}
 use Rattle.aq_ring.specs.Amplitudes.{FitsAmplitudeProduct}
 use Rattle.aq_ring.specs.Vectors.{IsZeroVector, Proportional}
-use Rattle.aq_label.specs.declared.Ratio.{Ratio}
-use Rattle.aq_label.specs.declared.Ratio.TheVariants.{AllZero, Different, Wide, Same}
-use Rattle.aq_prog.specs.Gates.{apply_gates, FitsGate}
-use Rattle.aq_prog.specs.Runs.{Played, played_gates}
-use Rattle.aq_prog.specs.declared.gate.Gate.{Gate}
-use Rattle.aq_plain.specs.Vectors.{StateVector}
-use Rattle.aq_obligations.specs.Correct.{zeros}
-use Rattle.aq_report.specs.declared.verdict.Refutation.{Refutation}
-use Rattle.aq_report.specs.declared.verdict.Verdict.{Verdict}
-use Rattle.aq_report.specs.declared.verdict.Verdict.TheVariants as verdict
-use Rattle.aq_report.specs.declared.verdict.Why.TheVariants as why
+use Rattle.aq_obligations.specs.Claims.{ClaimCase, are_met, Holds}
 use Rattle.aq_judge.specs.declared.compare.Found.{Found}
 use Rattle.aq_judge.specs.declared.compare.Found.TheVariants as found
-use Rattle.aq_judge.specs.declared.runs.End.{End}
-use Rattle.aq_judge.specs.declared.runs.End.TheVariants as end
-use Rattle.aq_judge.specs.declared.stop.Stop.{Stop}
-use Rattle.aq_judge.specs.declared.stop.Stop.TheVariants as stop
-
--- the amplitudes of states
-abbrev pub amps_of : List StateVector → List (List Amplitude)
-amps_of states = map (λ s. s.amps) states
-
--- some gate of these doesn't fit on the vector that it meets
-pub record WideStep (n : ℕ) (gates : List Gate) (v : List Amplitude) : Type 0 where
-  pub step : Played
-  pub met : Contains (played_gates n gates v) step
-  pub wide : FitsGate n step.gate step.before → ⊥
+use Rattle.aq_judge.specs.declared.find.Place.{Place}
+use Rattle.aq_judge.specs.declared.find.Place.TheVariants as place
 
 -- some entry of the first vector times some entry of the second doesn't fit
 pub record WideProduct (u v : List Amplitude) : Type 0 where
@@ -39,109 +17,54 @@ pub record WideProduct (u v : List Amplitude) : Type 0 where
   pub of_second : Contains v right
   pub wide : FitsAmplitudeProduct left right → ⊥
 
--- what a comparison of two vectors says
-abbrev pub Compares : List Amplitude → List Amplitude → Ratio → Type 0
-Compares u v AllZero = IsZeroVector u
-Compares u v (Same pivot) = Proportional u v
-Compares u v (Different place) = Proportional u v → ⊥
-Compares u v (Wide left right) = WideProduct u v
+-- what is found: what was looked for, unless the vector is zero; that it isn't there; or a product that doesn't fit
+abbrev pub Finds : List Amplitude → Type 0 → Type 0 → Found → Type 0
+Finds v Is IsWide found.Goal = IsZeroVector v ⊎ Is
+Finds v Is IsWide found.Nothing = Is → ⊥
+Finds v Is IsWide found.Unclear = IsWide
 
--- it doesn't tell the vectors apart
-abbrev pub is_same : Ratio → Bool
-is_same AllZero = true
-is_same (Same pivot) = true
-is_same (Different place) = false
-is_same (Wide left right) = false
-
--- it tells nothing
-abbrev pub is_wide : Ratio → Bool
-is_wide AllZero = false
-is_wide (Same pivot) = false
-is_wide (Different place) = false
-is_wide (Wide left right) = true
-
--- ---- an end, and the vectors that are allowed there
-
--- it is a nonzero multiple of one of them
+-- the vector is a nonzero multiple of one of these
 abbrev pub IsOneOf : List (List Amplitude) → List Amplitude → Type 0
 IsOneOf allowed v = Any (λ w. Proportional v w) allowed
 
--- it is, or it is zero
-abbrev pub IsKept : List (List Amplitude) → List Amplitude → Type 0
-IsKept allowed v = IsZeroVector v ⊎ IsOneOf allowed v
+-- a product of one of its entries with an entry of one of these doesn't fit
+abbrev pub WideAmong : List (List Amplitude) → List Amplitude → Type 0
+WideAmong allowed v = Any (λ w. WideProduct v w) allowed
 
--- it is neither
-abbrev pub IsLost : List (List Amplitude) → List Amplitude → Type 0
-IsLost allowed v = (IsZeroVector v → ⊥) × (IsOneOf allowed v → ⊥)
+-- the same of the vectors of a case whose conditions hold in the bits, and of a goal
+abbrev pub WideCase : List Bool → List Amplitude → ClaimCase → Type 0
+WideCase bits v c = (are_met c.when bits ≡ true) × WideAmong c.vectors v
 
--- a product of one of its entries with an entry of one of them doesn't fit
-pub record WideAmong (allowed : List (List Amplitude)) (v : List Amplitude) : Type 0 where
-  pub goal : List Amplitude
-  pub listed : Contains allowed goal
-  pub product : WideProduct v goal
+abbrev pub WideGoal : List ClaimCase → List Bool → List Amplitude → Type 0
+WideGoal goal bits v = Any (λ c. WideCase bits v c) goal
 
--- what is found where the vector is looked for among those that are allowed
-abbrev pub Finds : List (List Amplitude) → List Amplitude → Found → Type 0
-Finds allowed v found.Goal = IsKept allowed v
-Finds allowed v found.Nothing = IsOneOf allowed v → ⊥
-Finds allowed v found.Unclear = WideAmong allowed v
+-- ---- an end
 
--- ---- the run from a vector
+-- it is zero, or the goal allows it
+abbrev pub IsKeptBy : List ClaimCase → List Bool → List Amplitude → Type 0
+IsKeptBy goal bits v = IsZeroVector v ⊎ Holds goal bits v
 
--- a gate on it, or a comparison of its end, doesn't fit
-abbrev pub WideRun : ℕ → List Gate → List (List Amplitude) → List Amplitude → Type 0
-WideRun n gates allowed v = WideStep n gates v ⊎ WideAmong allowed (apply_gates n gates v)
+-- what is told of it
+abbrev pub Ends : List ClaimCase → List Bool → List Amplitude → Found → Type 0
+Ends goal bits v found.Goal = IsKeptBy goal bits v
+Ends goal bits v found.Nothing = (IsZeroVector v → ⊥) × (Holds goal bits v → ⊥)
+Ends goal bits v found.Unclear = WideGoal goal bits v
 
--- what is told of it: what an end that is lost shows is that end
-abbrev pub EndsAs : ℕ → List Gate → List (List Amplitude) → List Amplitude → End → Type 0
-EndsAs n gates allowed v end.Kept = IsKept allowed (apply_gates n gates v)
-EndsAs n gates allowed v (end.Lost e) = (e.qubits ≡ n) × ((e.amps ≡ apply_gates n gates v) × IsLost allowed (apply_gates n gates v))
-EndsAs n gates allowed v end.Unclear = WideRun n gates allowed v
+-- ---- the vectors of a world
 
--- ---- the runs from a list of vectors
-
--- the runs from all of them are kept
-pub record AreKept (n : ℕ) (gates : List Gate) (allowed starts : List (List Amplitude)) : Type 0 where
-  pub each : All (λ v. IsKept allowed (apply_gates n gates v)) starts
-
--- the run from one of them doesn't fit
-pub record IsUnclear (n : ℕ) (gates : List Gate) (allowed starts : List (List Amplitude)) : Type 0 where
-  pub start : List Amplitude
-  pub listed : Contains starts start
-  pub wide : WideRun n gates allowed start
-
--- the first run that isn't kept is lost, and this shows it; the bits stay 0
-pub record IsLostBy (n m : ℕ) (gates : List Gate) (allowed starts : List (List Amplitude)) (r : Refutation) : Type 0 where
+-- the first one that escapes the goal stands at this place
+pub record EscapesAt (goal : List ClaimCase) (bits : List Bool) (vectors : List (List Amplitude)) (place : ℕ) : Type 0 where
   pub before : List (List Amplitude)
+  pub escaping : List Amplitude
   pub after : List (List Amplitude)
-  pub starts_are : starts ≡ before ++ r.state.amps ∷ after
-  pub kept : AreKept n gates allowed before
-  pub lost : IsLost allowed (apply_gates n gates r.state.amps)
-  pub state_qubits : r.state.qubits ≡ n
-  pub end_qubits : r.end.qubits ≡ n
-  pub end_is : r.end.amps ≡ apply_gates n gates r.state.amps
-  pub bits_are : r.bits ≡ zeros m
-  pub outcomes_are : r.outcomes ≡ []
-  pub end_bits_are : r.end_bits ≡ zeros m
+  pub vectors_are : vectors ≡ before ++ escaping ∷ after
+  pub place_is : length before ≡ place
+  pub before_kept : All (IsKeptBy goal bits) before
+  pub nonzero : IsZeroVector escaping → ⊥
+  pub escapes : Holds goal bits escaping → ⊥
 
--- a verdict on the runs from all of them
-abbrev pub Judges : ℕ → ℕ → List Gate → List (List Amplitude) → List (List Amplitude) → Verdict → Type 0
-Judges n m gates allowed starts verdict.Verified = AreKept n gates allowed starts
-Judges n m gates allowed starts (verdict.Refuted r) = IsLostBy n m gates allowed starts r
-Judges n m gates allowed starts (verdict.GaveUp why.Width) = IsUnclear n gates allowed starts
-Judges n m gates allowed starts (verdict.GaveUp why.Steps) = ⊥
-Judges n m gates allowed starts (verdict.GaveUp why.Memory) = ⊥
-
--- ---- why nothing is told
-
--- one of these products doesn't fit
-pub record HasWide (products : List (Amplitude × Amplitude)) : Type 0 where
-  pub left : Amplitude
-  pub right : Amplitude
-  pub taken : Contains products (left, right)
-  pub wide : FitsAmplitudeProduct left right → ⊥
-
--- a number doesn't fit, as this says; want of memory is free
-abbrev pub StopsFor : Type 0 → Stop → Type 0
-StopsFor P stop.Width = P
-StopsFor P stop.Memory = Unit {0}
+-- what is told of them: all are kept, the first one that isn't, or that a comparison of one doesn't fit
+abbrev pub Places : List ClaimCase → List Bool → List (List Amplitude) → Place → Type 0
+Places goal bits vectors place.Kept = All (IsKeptBy goal bits) vectors
+Places goal bits vectors (place.Lost at) = EscapesAt goal bits vectors at
+Places goal bits vectors place.Unclear = Any (WideGoal goal bits) vectors

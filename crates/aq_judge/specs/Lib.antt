@@ -1,5 +1,4 @@
-pub mod Bodies
 pub mod Examples
 pub mod Finding
-pub mod Met
-pub mod Owed
+pub mod Listing
+pub mod Refuting

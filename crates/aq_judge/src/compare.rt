@@ -1,60 +1,50 @@
 //! Whether a vector is a nonzero multiple of another.
-ghost use Rattle.std.specs.Prelude.{◌≡◌, All, length};
-ghost use Rattle.aq_judge.specs.Finding.{Compares, Finds, amps_of, is_same, is_wide};
+ghost use Rattle.std.specs.Prelude.{◌≡◌, ◌||◌};
+ghost use Rattle.aq_ring.specs.Vectors.{Proportional};
+ghost use Rattle.aq_worlds.specs.Playing.{AreOn, amps_of};
+ghost use Rattle.aq_judge.specs.Finding.{Finds, IsOneOf, WideAmong, WideProduct};
 
 use aq_label::{Ratio, ratio_of_amps};
 use aq_plain::Vector;
-use aq_ring::Amp;
 
-/// What is found where a vector is looked for among others.
+/// What is found where something is looked for that equals a vector up to a nonzero factor.
 #[derive(Clone, Copy, Debug, PartialEq, Eq)]
 pub(crate) enum Found {
-    /// The vector is a nonzero multiple of one of them, or zero.
+    /// There is one, or the vector is zero.
     Goal,
-    /// It is a nonzero multiple of none.
+    /// There is none.
     Nothing,
     /// A product that would tell doesn't fit.
     Unclear,
 }
 
-/// Whether two vectors are proportional.
-fn compare(left: &[Amp], right: &[Amp]) -> Ratio
-    requires { length left.now ≡ length right.now }
-    ensures { Compares left.now right.now result }
+/// Compares two vectors.
+fn compare(left: &Vector, right: &Vector) -> Found
+    requires { right.now.qubits ≡ left.now.qubits }
+    ensures { Finds left.now.amps (Proportional left.now.amps right.now.amps)
+        (WideProduct left.now.amps right.now.amps) result }
 {
-    ratio_of_amps(left, right)
-}
-
-fn is_same(ratio: &Ratio) -> bool
-    ensures { result ≡ is_same ratio.now }
-{
-    match ratio {
-        Ratio::AllZero | Ratio::Same { .. } => true,
-        Ratio::Different { .. } | Ratio::Wide { .. } => false,
-    }
-}
-
-fn is_wide(ratio: &Ratio) -> bool
-    ensures { result ≡ is_wide ratio.now }
-{
-    match ratio {
-        Ratio::Wide { .. } => true,
-        Ratio::AllZero | Ratio::Same { .. } | Ratio::Different { .. } => false,
+    match ratio_of_amps(left.amps(), right.amps()) {
+        Ratio::AllZero => Found::Goal,
+        Ratio::Same { .. } => Found::Goal,
+        Ratio::Different { .. } => Found::Nothing,
+        Ratio::Wide { .. } => Found::Unclear,
     }
 }
 
 /// Looks for the vector, up to a nonzero factor, among those that are allowed.
-pub(crate) fn find_goal(end: &[Amp], allowed: &[Vector]) -> Found
-    requires { All (λ w. length w.amps ≡ length end.now) allowed.now }
-    ensures { Finds (amps_of allowed.now) end.now result }
+pub(crate) fn find_among(end: &Vector, allowed: &[Vector]) -> Found
+    requires { AreOn end.now.qubits allowed.now }
+    ensures { Finds end.now.amps (IsOneOf (amps_of allowed.now) end.now.amps)
+        (WideAmong (amps_of allowed.now) end.now.amps) result }
 {
     let mut wide = false;
     for goal in allowed {
-        let ratio = compare(end, goal.amps());
-        if is_same(&ratio) {
-            return Found::Goal;
+        match compare(end, goal) {
+            Found::Goal => return Found::Goal,
+            Found::Nothing => {}
+            Found::Unclear => wide = true,
         }
-        wide = wide || is_wide(&ratio);
     }
     if wide {
         return Found::Unclear;

@@ -1,18 +1,17 @@
-//! The judge of an obligation of gates, over plain lists of vectors: whether each run from a vector of its assumption
-//! ends in a nonzero multiple of a vector of its goal.
+//! The judge of an obligation, over plain lists of vectors: whether each world of its assumption has vectors alone that
+//! are zero or nonzero multiples of a vector of its goal.
 //!
-//! The definitions are in `specs/`: `Owed` has what is asked, `Finding` what is found of runs, and `Met` what the
-//! parts of the judge give.
+//! The definitions are in `specs/`: `Listing` has the cases with their vectors, `Finding` what is found of a vector and
+//! of a world, and `Refuting` what is shown of the first world that has another vector.
 #![tactic(auto)]
 
-mod body;
 mod compare;
-mod met;
-mod runs;
-mod stop;
+mod find;
+mod listing;
+mod refute;
 #[cfg(test)]
 mod tests;
 mod verdict;
+mod worlds;
 
-pub use body::are_gates;
 pub use verdict::{judge, judge_by_sizes};

@@ -1,14 +1,20 @@
-//! Verdicts on programs of one gate on one qubit, by hand.
-ghost use Rattle.std.specs.Prelude.{◌≡◌, ◌<◌, ◌≤◌, true, All, IfOk, length};
+//! Verdicts on obligations of one qubit and one bit, by hand.
+ghost use Rattle.std.specs.Prelude.{◌≡◌, ◌<◌, ◌≤◌, All, IfOk, IfSome, length};
 ghost use Rattle.aq_prog.specs.Gates.{AreEntries};
 ghost use Rattle.aq_prog.specs.Programs.{IsValidProgram};
 ghost use Rattle.aq_sets.specs.Valid.{IsValidSets};
-ghost use Rattle.aq_judge.specs.Bodies.{are_gates};
-ghost use Rattle.aq_judge.specs.Examples.{IsOneGate, IsSmallCase, both_kets, one_ket, table};
+ghost use Rattle.aq_judge.specs.Examples.{
+  IsSmallCase,
+  IsSmallObligation,
+  IsSmallStmt,
+  both_kets,
+  one_ket,
+  table,
+};
 
 use crate::judge;
 use aq_lex::Text;
-use aq_obligations::{AskedClaims, BoundCase, obligation_at_end};
+use aq_obligations::{BoundCase, Goal, Kind, Obligation};
 use aq_prog::{BitRegister, Entry, Gate, Guard, Program, Stmt, gate_named};
 use aq_report::{Verdict, Why};
 use aq_ring::Amp;
@@ -30,24 +36,77 @@ fn rows_of(name: &[u8]) -> Result<[[Entry; 2]; 2], Fail>
     }
 }
 
-/// The body of one gate on qubit 0.
-fn body_of(alloc: Global, name: &[u8]) -> Result<Items<Stmt>, Fail>
-    ensures { IfOk result IsOneGate }
+/// The gate on qubit 0.
+fn gate(alloc: Global, name: &[u8]) -> Result<Stmt, Fail>
+    ensures { IfOk result IsSmallStmt }
 {
     let rows = rows_of(name)?;
     let gate = Gate::new(Items::new(alloc), 0, rows);
+    Ok(Stmt::Gate(gate))
+}
+
+/// Measures qubit 0 into the bit.
+fn measurement() -> Stmt
+    ensures { IsSmallStmt result }
+{
+    Stmt::Measure {
+        qubit: 0,
+        bit: Some(0),
+    }
+}
+
+/// Flips qubit 0 where the bit is 1.
+fn flip_if_one(alloc: Global) -> Result<Stmt, Fail>
+    ensures { IfOk result IsSmallStmt }
+{
+    let flip = gate(alloc, b"x")?;
+    let mut yes = Items::new(alloc);
+    yes.push(flip)?;
+    let guard = Guard {
+        bit: 0,
+        value: true,
+    };
+    Ok(Stmt::If {
+        guard,
+        yes,
+        no: Items::new(alloc),
+    })
+}
+
+/// A statement.
+#[derive(Clone, Copy, Debug)]
+enum Part {
+    Gate(&'static [u8]),
+    Measurement,
+    FlipIfOne,
+}
+
+fn stmt_of(alloc: Global, part: Part) -> Result<Stmt, Fail>
+    ensures { IfOk result IsSmallStmt }
+{
+    match part {
+        Part::Gate(name) => gate(alloc, name),
+        Part::Measurement => Ok(measurement()),
+        Part::FlipIfOne => flip_if_one(alloc),
+    }
+}
+
+fn body_of(alloc: Global, parts: &[Part]) -> Result<Items<Stmt>, Fail>
+    ensures { IfOk result (λ body. All IsSmallStmt body) }
+{
     let mut body = Items::new(alloc);
-    body.push(Stmt::Gate(gate))?;
+    for part in parts {
+        let stmt = stmt_of(alloc, *part)?;
+        body.push(stmt)?;
+    }
     Ok(body)
 }
 
-/// One qubit, the bit `c`, and one gate.
-fn program(alloc: Global, name: &[u8]) -> Result<Program, Fail>
+/// One qubit and the bit `c`.
+fn program(alloc: Global) -> Result<Program, Fail>
     ensures valid { IfOk result (λ p. IsValidProgram p) }
-    ensures gates { IfOk result (λ p. are_gates p.body ≡ true) }
-    ensures sizes { IfOk result (λ p. (p.qubits ≡ 1) × (p.bits ≡ 1)) }
+    ensures sizes { IfOk result (λ p. (p.qubits ≡ 1) × (p.bits ≡ 1) × (length p.claims ≡ 0)) }
 {
-    let body = body_of(alloc, name)?;
     let mut registers = Items::new(alloc);
     registers.push(BitRegister {
         name: Text::from_slice(alloc, b"c")?,
@@ -60,7 +119,7 @@ fn program(alloc: Global, name: &[u8]) -> Result<Program, Fail>
         bits: 1,
         registers,
         claims: Items::new(alloc),
-        body,
+        body: Items::new(alloc),
     })
 }
 
@@ -144,43 +203,94 @@ fn cases_of(alloc: Global, rows: &[(u32, Option<bool>)]) -> Result<Items<BoundCa
     Ok(cases)
 }
 
-/// What is said of a program of this gate, where the expressions have this amplitude.
-fn verdict_of(
+/// What an obligation starts from: the program's start, or a claim with what is known of the bit.
+#[derive(Clone, Copy, Debug)]
+enum From {
+    Start,
+    Claim(Option<bool>),
+}
+
+fn given_by(from: From) -> Option<Guard>
+    ensures { IfSome result (λ g. g.bit < 1) }
+{
+    match from {
+        From::Start | From::Claim(None) => None,
+        From::Claim(Some(value)) => Some(Guard { bit: 0, value }),
+    }
+}
+
+fn obligation(
     alloc: Global,
-    name: &[u8],
-    amp: Amp,
+    from: From,
+    parts: &[Part],
     before: &[(u32, Option<bool>)],
     after: &[(u32, Option<bool>)],
-    limit: u64,
-) -> Result<Verdict, Fail>
-    requires { limit ≤ 1000000000 }
+) -> Result<Obligation, Fail>
+    ensures { IfOk result IsSmallObligation }
 {
-    let program = program(alloc, name)?;
-    let sets = sets(alloc, amp)?;
     let before = cases_of(alloc, before)?;
-    let after = cases_of(alloc, after)?;
-    let obligation = obligation_at_end(alloc, &program, AskedClaims { before, after })?;
-    Ok(judge(alloc, &program, &sets, &obligation, limit))
+    let cases = cases_of(alloc, after)?;
+    let fragment = body_of(alloc, parts)?;
+    Ok(Obligation {
+        start: matches!(from, From::Start),
+        from: before,
+        given: given_by(from),
+        fragment,
+        goal: Goal {
+            kind: Kind::Post,
+            line: 0,
+            cases,
+        },
+    })
+}
+
+/// What is said of the obligation, where the expressions have this amplitude.
+fn verdict_of(alloc: Global, amp: Amp, obligation: &Obligation, limit: u64) -> Result<Verdict, Fail>
+    requires small { IsSmallObligation obligation.now }
+    requires limit { limit ≤ 1000000000 }
+{
+    let program = program(alloc)?;
+    let sets = sets(alloc, amp)?;
+    Ok(judge(alloc, &program, &sets, obligation, limit))
+}
+
+/// What a refutation shows: the bit and the second entry of the state, the outcome, if there is one, and the bit and
+/// the second entry of the end.
+#[derive(Clone, Copy, Debug, PartialEq, Eq)]
+struct Run {
+    state: (bool, Amp),
+    outcome: Option<bool>,
+    end: (bool, Amp),
 }
 
 /// What a verdict says.
 #[derive(Clone, Copy, Debug, PartialEq, Eq)]
 enum Said {
     Verified,
-    /// The second entries of the state and of the end.
-    Refuted(Amp, Amp),
+    Refuted(Run),
     GaveUp(Why),
-    /// A vector without two entries.
+    /// A vector without two entries, or a state without a bit.
     Odd,
+}
+
+fn state_of(bits: &[bool], vector: &[Amp]) -> Option<(bool, Amp)> {
+    Some((*bits.first()?, *vector.get(1)?))
 }
 
 fn told_by(verdict: &Verdict) -> Said {
     match verdict {
         Verdict::Verified => Said::Verified,
         Verdict::GaveUp(why) => Said::GaveUp(*why),
-        Verdict::Refuted(refutation) => {
-            match (refutation.state.amps().get(1), refutation.end.amps().get(1)) {
-                (Some(state), Some(end)) => Said::Refuted(*state, *end),
+        Verdict::Refuted(shown) => {
+            let state = state_of(shown.bits.as_slice(), shown.state.amps());
+            let end = state_of(shown.end_bits.as_slice(), shown.end.amps());
+            let outcome = shown.outcomes.as_slice().first().copied();
+            match (state, end) {
+                (Some(state), Some(end)) => Said::Refuted(Run {
+                    state,
+                    outcome,
+                    end,
+                }),
                 _ => Said::Odd,
             }
         }
@@ -189,15 +299,26 @@ fn told_by(verdict: &Verdict) -> Said {
 
 const LIMIT: u64 = 20_000_000;
 
+/// Of one gate, from the program's start.
 fn said_of(
     alloc: Global,
-    name: &[u8],
+    name: &'static [u8],
     amp: Amp,
     before: &[(u32, Option<bool>)],
     after: &[(u32, Option<bool>)],
 ) -> Result<Said, Fail> {
-    let verdict = verdict_of(alloc, name, amp, before, after, LIMIT)?;
+    let obligation = obligation(alloc, From::Start, &[Part::Gate(name)], before, after)?;
+    let verdict = verdict_of(alloc, amp, &obligation, LIMIT)?;
     Ok(told_by(&verdict))
+}
+
+/// Refuted by a run of gates, where the bit stays 0.
+fn by_gates(state: Amp, end: Amp) -> Said {
+    Said::Refuted(Run {
+        state: (false, state),
+        outcome: None,
+        end: (false, end),
+    })
 }
 
 #[test]
@@ -207,7 +328,7 @@ fn all_states_are_kept(rt: HostRuntime) -> Result<(), Fail> {
         said_of(alloc, b"x", Amp::one(), &[(2, None)], &[(2, None)])?,
         Said::Verified
     );
-    let refuted = Said::Refuted(Amp::one(), Amp::zero());
+    let refuted = by_gates(Amp::one(), Amp::zero());
     assert_eq!(rt;
         said_of(alloc, b"x", Amp::one(), &[(2, None)], &[(1, None)])?,
         refuted
@@ -223,12 +344,12 @@ fn phases_count_for_nothing(rt: HostRuntime) -> Result<(), Fail> {
         said_of(alloc, b"x", phase, &[(3, None)], &[(3, None)])?,
         Said::Verified
     );
-    let first = Said::Refuted(Amp::zero(), Amp::one());
+    let first = by_gates(Amp::zero(), Amp::one());
     assert_eq!(rt;
         said_of(alloc, b"x", phase, &[(3, None)], &[(0, None)])?,
         first
     );
-    let second = Said::Refuted(phase, Amp::zero());
+    let second = by_gates(phase, Amp::zero());
     assert_eq!(rt;
         said_of(alloc, b"x", phase, &[(3, None)], &[(1, None)])?,
         second
@@ -245,7 +366,7 @@ fn bits_are_zero(rt: HostRuntime) -> Result<(), Fail> {
         said_of(alloc, b"x", one, never, &[(0, None)])?,
         Said::Verified
     );
-    let refuted = Said::Refuted(Amp::zero(), Amp::one());
+    let refuted = by_gates(Amp::zero(), Amp::one());
     assert_eq!(rt;
         said_of(alloc, b"x", one, &[(0, Some(false))], &[(0, None)])?,
         refuted
@@ -297,13 +418,61 @@ fn steps_up_to_the_limit(rt: HostRuntime) -> Result<(), Fail> {
     let alloc = rt.alloc();
     let one = Amp::one();
     let steps = Said::GaveUp(Why::Steps);
-    let plain = verdict_of(alloc, b"x", one, &[(0, None)], &[(1, None)], 223)?;
-    assert_eq!(rt; told_by(&plain), steps);
-    let plain = verdict_of(alloc, b"x", one, &[(0, None)], &[(1, None)], 224)?;
-    assert_eq!(rt; told_by(&plain), Said::Verified);
-    let split = verdict_of(alloc, b"x", one, &[(0, Some(true))], &[(1, None)], 319)?;
-    assert_eq!(rt; told_by(&split), steps);
-    let split = verdict_of(alloc, b"x", one, &[(0, Some(true))], &[(1, None)], 320)?;
-    assert_eq!(rt; told_by(&split), Said::Verified);
+    let flip = &[Part::Gate(b"x")];
+    let plain = obligation(alloc, From::Start, flip, &[(0, None)], &[(1, None)])?;
+    assert_eq!(rt; told_by(&verdict_of(alloc, one, &plain, 223)?), steps);
+    assert_eq!(rt;
+        told_by(&verdict_of(alloc, one, &plain, 224)?),
+        Said::Verified
+    );
+    let split = obligation(alloc, From::Start, flip, &[(0, Some(true))], &[(1, None)])?;
+    assert_eq!(rt; told_by(&verdict_of(alloc, one, &split, 319)?), steps);
+    assert_eq!(rt;
+        told_by(&verdict_of(alloc, one, &split, 320)?),
+        Said::Verified
+    );
+    Ok(())
+}
+
+#[test]
+fn outcomes_one_by_one(rt: HostRuntime) -> Result<(), Fail> {
+    let alloc = rt.alloc();
+    let one = Amp::one();
+    let root = one.over_root().ok_or("root")?;
+    let toss = &[Part::Gate(b"h"), Part::Measurement];
+    let by_bit = &[(0, Some(false)), (1, Some(true))];
+    let told = obligation(alloc, From::Start, toss, &[(0, None)], by_bit)?;
+    assert_eq!(rt;
+        told_by(&verdict_of(alloc, one, &told, LIMIT)?),
+        Said::Verified
+    );
+    let zero = obligation(alloc, From::Start, toss, &[(0, None)], &[(0, None)])?;
+    let refuted = Said::Refuted(Run {
+        state: (false, Amp::zero()),
+        outcome: Some(true),
+        end: (true, root),
+    });
+    assert_eq!(rt; told_by(&verdict_of(alloc, one, &zero, LIMIT)?), refuted);
+    Ok(())
+}
+
+#[test]
+fn bits_that_are_open(rt: HostRuntime) -> Result<(), Fail> {
+    let alloc = rt.alloc();
+    let one = Amp::one();
+    let flip = &[Part::FlipIfOne];
+    let open = obligation(alloc, From::Claim(None), flip, &[(0, None)], &[(0, None)])?;
+    let refuted = Said::Refuted(Run {
+        state: (true, Amp::zero()),
+        outcome: None,
+        end: (true, Amp::one()),
+    });
+    assert_eq!(rt; told_by(&verdict_of(alloc, one, &open, LIMIT)?), refuted);
+    let zero = From::Claim(Some(false));
+    let known = obligation(alloc, zero, flip, &[(0, None)], &[(0, None)])?;
+    assert_eq!(rt;
+        told_by(&verdict_of(alloc, one, &known, LIMIT)?),
+        Said::Verified
+    );
     Ok(())
 }

@@ -7,16 +7,16 @@ ghost use Rattle.aq_obligations.specs.Wide.{IsWide};
 ghost use Rattle.aq_report.specs.Verdicts.{IsJustified};
 ghost use Rattle.aq_report.specs.declared.verdict.Verdict.TheVariants as verdict;
 ghost use Rattle.aq_report.specs.declared.verdict.Why.TheVariants as why;
-ghost use Rattle.aq_judge.specs.Finding.{StopsFor};
-ghost use Rattle.aq_judge.specs.Owed.{CanBeJudged};
+ghost use Rattle.aq_worlds.specs.Asked.{CanBeJudged};
+ghost use Rattle.aq_worlds.specs.Playing.{StopsFor};
 
-use crate::met::met_states;
-use crate::runs::judge_starts;
-use crate::stop::Stop;
+use crate::listing::goal_cases;
+use crate::worlds::judge_cases;
 use aq_obligations::{Obligation, enough_steps};
 use aq_prog::Program;
 use aq_report::{Verdict, Why};
 use aq_sets::{Sets, Size, sizes_of};
+use aq_worlds::Stop;
 use std::alloc::Global;
 
 /// Judges the obligation, however many steps that takes.
@@ -33,20 +33,21 @@ fn try_judge(
         (meaning_of program.now sets.now obligation.now) v) }
     ensures err { IfErr result (λ e. StopsFor (IsWide (meaning_of program.now sets.now obligation.now)) e) }
 {
-    let allowed = met_states(alloc, sets, sizes, obligation.goal.cases.as_slice())?;
-    let starts = met_states(alloc, sets, sizes, obligation.from.as_slice())?;
-    let body = obligation.fragment.as_slice();
-    let verdict = judge_starts(alloc, program, body, starts.as_slice(), allowed.as_slice())?;
-    Ok(verdict)
+    let cases = obligation.goal.cases.as_slice();
+    let goal = goal_cases(alloc, program, sets, sizes, cases)?;
+    match judge_cases(alloc, program, sets, sizes, obligation, goal.as_slice())? {
+        None => Ok(Verdict::Verified),
+        Some(refutation) => Ok(Verdict::Refuted(refutation)),
+    }
 }
 
-/// Judges an obligation of the program whose statements are gates, from the program's start: whether each run from a
-/// vector of a case whose conditions hold there, where every bit is 0, ends in zero or in a nonzero multiple of a
-/// vector of a case of the goal whose conditions hold.
+/// Judges an obligation of the program: whether each run of its statements, from a state of one of its cases, ends in zero
+/// or in a nonzero multiple of a vector of a case of the goal whose conditions hold there.
 ///
-/// The verdict is justified. `GaveUp(Steps)`: exactly where the limit is below the number of steps that are enough,
-/// which is told before any vector is made. `GaveUp(Width)`: a number that is needed doesn't fit. `GaveUp(Memory)`:
-/// memory ran out, which may come anywhere.
+/// The verdict is justified. A refutation is that of the first vector which isn't kept, of the first world that has
+/// one. `GaveUp(Steps)`: exactly where the limit is below the number of steps that are enough, which is told before
+/// any vector is made. `GaveUp(Width)`: a number that is needed doesn't fit. `GaveUp(Memory)`: memory ran out, which
+/// may come anywhere.
 pub fn judge(
     alloc: Global,
     program: &Program,

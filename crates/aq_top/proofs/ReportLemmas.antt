@@ -1,6 +1,6 @@
 -- Reports of several verdicts: how they grow, their counts and their status.
 use Rattle.std.proofs.Common.{◌≡◌, ℕ, zero, suc, ◌+◌, ◌<◌, ◌≤◌, Bool, true, false, cond, List, [], ◌∷◌, ◌++◌, All, length, map, take, drop, get_or, count_by, Result, Ok, Err, IfOk, nat_lt, refl, ap, ap₂, sym, ◌∙◌, subst, arith, append-nil, append_assoc, add-one, take-append-drop, min, ◌^◌, ◌-◌, ◌||◌, if◌then◌else◌}
-use Rattle.std.proofs.Math.ListN.{take_of_length-le}
+use Rattle.std.proofs.lemmas.List.{take_all}
 use Rattle.std.specs.List.{list_any}
 use Rattle.std.proofs.lemmas.Bool.Decides.{nat_tests}
 use Rattle.std.proofs.lemmas.List.Elements.{All-cons, All-nil}
@@ -232,7 +232,7 @@ module _ {S : Type 0} (sink : SinkMeaning S) (old mid new : S) (limit : ℕ) (p 
 pub so_far_end : {S : Type 0} (sink : SinkMeaning S) (old new : S) (limit : ℕ) (p : Program) (s : Sets) (os : List Obligation) (i : ℕ) (t : Tally) → length os ≤ i
     → SoFar sink old new limit p s os i t → PrintsVerdicts sink old new limit p s os (lines_from 1 os) (Ok t)
 so_far_end sink old new limit p s os i t h f =
-    let all : take i os ≡ os = take_of_length-le h in
+    let all : take i os ≡ os = take_all i os h in
     let prints = subst (λ l. Prints {T = Unit {0}} sink old new (Ok tt) (lines_from 1 l f.verdicts)) all f.prints in
     record {
       verdicts = f.verdicts;

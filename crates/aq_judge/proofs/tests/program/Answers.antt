@@ -1,14 +1,11 @@
 use Rattle.std.proofs.Common.{◌∙◌, [], ◌∷◌, ◌++◌, sym, refl, subst, false}
 use Rattle.aq_prog.specs.declared.program.BitRegister.{BitRegister}
 use Rattle.aq_prog.specs.Programs.{IsValidProgram}
-use Rattle.aq_judge.proofs.ExampleLaws.{valid_program, is_gates}
+use Rattle.aq_judge.proofs.ExampleLaws.{valid_program}
 use Rattle.aq_judge.proofs.tests.program.Goals as goal
 
 pub returns-clause-valid : goal.returns-clause-valid
 returns-clause-valid c =
     let r : BitRegister = record { name = c.in_ok-from_slice.field-0; first = 0; size = 1; indexed = false } in
     let one = c.in_ok-push.ensures.ok ∙ (λ i. c.new-registers.ensures i ++ r ∷ []) in
-    subst IsValidProgram (λ i. record { qubits = 1; bits = 1; registers = sym one i; claims = sym c.new.ensures i; body = c.in_ok-body.body }) (valid_program r c.in_ok-body.body c.in_ok-body.ensures refl refl)
-
-pub returns-clause-gates : goal.returns-clause-gates
-returns-clause-gates c = is_gates c.in_ok-body.body c.in_ok-body.ensures
+    subst IsValidProgram (λ i. record { qubits = 1; bits = 1; registers = sym one i; claims = sym c.new.ensures i; body = sym c.new-2.ensures i }) (valid_program r refl refl)
