@@ -1,8 +1,7 @@
 -- The fragments of the tests.
-use Rattle.std.proofs.Common.{◌≡◌, ℕ, Bool, true, false, ◌||◌, List, [], ◌∷◌, All, None, refl, ap₂, ◌∙◌, arith}
-use Rattle.std.specs.List.{list_any}
+use Rattle.std.proofs.Common.{Bool, true, false, ◌||◌, List, [], ◌∷◌, None, refl, ap₂, arith}
 use Rattle.std.proofs.lemmas.List.Elements.{All-cons, All-nil}
-use Rattle.aq_prog.specs.Cuts.{AreUncut, cut_step, has_cut}
+use Rattle.aq_prog.specs.Cuts.{AreUncut, cut_step}
 use Rattle.aq_prog.specs.Programs.{IsValidLevel, IsValidStmt}
 use Rattle.aq_prog.specs.declared.stmt.Guard.{Guard}
 use Rattle.aq_prog.specs.declared.stmt.Stmt.{Stmt, every_made-Stmt}

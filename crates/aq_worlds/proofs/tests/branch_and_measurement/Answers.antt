@@ -1,9 +1,9 @@
-use Rattle.std.proofs.Common.{◌≡◌, List, [], ◌∷◌, ◌++◌, None, ap, ap₂, sym, ◌∙◌, subst}
+use Rattle.std.proofs.Common.{List, [], ◌∷◌, ◌++◌, None, ap, ap₂, sym, ◌∙◌, subst}
 use Rattle.aq_prog.specs.Cuts.{AreUncut}
 use Rattle.aq_prog.specs.declared.stmt.Stmt.{Stmt}
 use Rattle.aq_prog.specs.declared.stmt.Stmt.TheVariants as stmt
 use Rattle.aq_plain.specs.Replaying.{ArePlayable}
-use Rattle.aq_worlds.proofs.ExampleLaws.{both, both_playable, both_uncut, guard}
+use Rattle.aq_worlds.proofs.ExampleLaws.{both_playable, both_uncut, guard}
 use Rattle.aq_worlds.proofs.tests.branch_and_measurement.Goals as goal
 
 pub returns-clause-playable : goal.returns-clause-playable
