@@ -1,8 +1,9 @@
 -- The levels of an automaton, each node once, and the pairs of nodes of each level, hold all that a gate meets.
-use Rattle.std.proofs.Common.{◌≡◌, ℕ, zero, suc, ◌+◌, ◌*◌, ◌≤◌, inl, inr, Bool, true, false, ◌||◌, cond, nat_eq, List, [], ◌∷◌, ◌++◌, length, drop, slice_get}
+use Rattle.std.proofs.Common.{◌≡◌, ℕ, zero, suc, ◌+◌, ◌*◌, ◌<◌, ◌≤◌, inl, inr, Bool, true, false, ◌||◌, cond, nat_eq, List, [], ◌∷◌, ◌++◌, length, drop, slice_get}
 use Rattle.std.proofs.Common.{Some, refl, sym, ap, ap₂, subst, ◌∙◌, arith, true≢false}
 use Rattle.std.proofs.lemmas.Bool.{eqb-true}
 use Rattle.std.proofs.lemmas.List.{length-append}
+use Rattle.std.proofs.lemmas.Option.{slice_get_within}
 use Rattle.std.specs.List.{list_any}
 use Rattle.indexmap.specs.IndexSet.{insert_key, insert_all}
 use Rattle.aq_store.specs.declared.node.Node.{Node}
@@ -240,3 +241,9 @@ gate_counted table none new free fresh m copy lsta is s =
       record { closed = gate_couples table m copy (lsta.root ∷ []) all; here = subst (IsIn lsta.root) (sym (first_level table copy (lsta.root ∷ []))) (record { place = 0; at = refl }) },
       omega arith,
     )
+
+-- a place of a shape is in the table
+pub place_within : {L : Type 0} (table : List (Node L)) (shape : List ℕ) (id : ℕ) → HasShape table shape id → id < length table
+unfolding HasShape
+place_within table [] id s = slice_get_within table id _ s.here
+place_within table (n ∷ shape) id s = slice_get_within table id _ s.1.here

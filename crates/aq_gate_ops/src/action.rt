@@ -1,4 +1,5 @@
-ghost use Rattle.std.specs.Prelude.{◌≡◌, ℕ, suc, ◌+◌, ◌-◌, ◌*◌, ◌^◌, ◌<◌, ◌≤◌, length, drop, IfOk, IfErr, OnOk, IsTrue};
+ghost use Rattle.std.specs.Prelude.{◌≡◌, ℕ, suc, ◌+◌, ◌-◌, ◌*◌, ◌^◌, ◌<◌, ◌≤◌, length, drop};
+ghost use Rattle.std.specs.Prelude.{IfOk, IfErr, OnOk, IsTrue};
 ghost use Rattle.aq_prog.specs.Gates.{IsValidGate};
 ghost use Rattle.aq_store.specs.Levels.{levels_of};
 ghost use Rattle.aq_store.specs.Means.{Means, MeansPair, of_place, of_pair};
@@ -73,8 +74,8 @@ fn act_at<L: Label>(
     Ok(made)
 }
 
-/// What the gate makes of a pair of a node at this depth: at the target both rows of its two sides, and above it what it
-/// makes of each side, where a control leaves the left one.
+/// What the gate makes of a pair of a node at this depth: at the target both rows of its two sides, and above it what
+/// it makes of each side, where a control leaves the left one.
 #[cycle(act)]
 fn act_pair<L: Label>(
     alloc: Global,
@@ -161,12 +162,12 @@ fn act_pair<L: Label>(
 /// An automaton of the same shape, whose vector of each word is the gate on the vector of that word. Nodes of the store
 /// keep their meaning, also where the call gives up.
 ///
-/// It takes at most twice the words times `2^(n+1)` steps for n levels. Besides what new nodes cost it takes at most one
-/// step for each node of the automaton and each ordered pair of nodes of one depth.
+/// It takes at most twice the words times `2^(n+1)` steps for n levels. Besides what new nodes cost it takes at most
+/// one step for each node of the automaton and each ordered pair of nodes of one depth.
 ///
 /// `Spent` comes only where the steps that were taken before and the first of these bounds are more than the limit.
-/// `Wide` comes only where at some index of some word's vector a quotient of the gate or its sum doesn't fit: for a sum it
-/// has the two terms, and for a quotient twice the turned label.
+/// `Wide` comes only where at some index of some word's vector a quotient of the gate or its sum doesn't fit: for a
+/// sum it has the two terms, and for a quotient twice the turned label.
 pub fn apply<L: Label>(
     alloc: Global,
     store: &mut Store<L>,
@@ -176,7 +177,6 @@ pub fn apply<L: Label>(
 ) -> Result<Lsta, Stop<L>>
     requires fits { FitsStore store.old lsta.now }
     requires valid { IsValidGate (length lsta.now.shape.items) gate.now }
-    requires small { length lsta.now.shape.items < 2 ^ 32 }
     requires paid { total_cost store.old ≤ steps.old.taken }
     ensures applied { let applied = IsApplied L.parts L.part_count gate.now store.old store.new lsta.now in
         IfOk result applied }
@@ -192,6 +192,7 @@ pub fn apply<L: Label>(
         OnOk result (steps.new.taken + total_cost store.old ≤ steps.old.taken + total_cost store.new + keys) }
     ensures cause { IfErr result (IsCause (IsGateCause L.parts L.part_count gate.now store.old lsta.now)) }
 {
+    let _levels = store.height(lsta.root);
     let shape = lsta.shape.as_slice();
     let mut memo = Memo::new(alloc);
     let mut rows = PairMemo::new(alloc);

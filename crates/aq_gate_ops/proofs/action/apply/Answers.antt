@@ -4,7 +4,9 @@ use Rattle.aq_prog.specs.Gates.{IsValidGate, apply_gate, FitsGate}
 use Rattle.aq_store.specs.Nodes.{HasShape, tree}
 use Rattle.aq_store.specs.Memos.{memo_at, pair_memo_at}
 use Rattle.aq_store.specs.Parts.{part_vector}
-use Rattle.aq_store.proofs.ShapeLemmas.{tree_size}
+use Rattle.aq_store.proofs.ShapeLemmas.{tree_size, shape_height}
+use Rattle.aq_store.proofs.TableLemmas.{one_height}
+use Rattle.aq_gate_ops.proofs.KeyBounds.{place_within}
 use Rattle.std.proofs.Common.{◌+◌, ◌*◌, ◌<◌, ◌-◌, suc, refl, is_some}
 use Rattle.aq_store.specs.Memos.{is_done}
 use Rattle.aq_store.specs.Words.{words}
@@ -105,3 +107,13 @@ returns-clause-besides g c =
     let r = gate_counted c.args.store.now (is_done (memo_at c.new-memo.result)) (λ i. ap is_some (c.new-memo.ensures i)) (is_made c.new-rows.result) (λ p. ap is_some (c.new-rows.ensures p))
     (c.args.gate.now.target - 0) c.as_slice-shape.result.now c.args.lsta.now is s in
     omega (arith, (c.in_ok-root.ensures.steps r.0 r.1 r.2).besides, r.3)
+
+pub height-levels-requires : goal.height-levels-requires
+height-levels-requires g c = place_within c.args.store.now c.args.lsta.now.shape.items c.args.lsta.now.root c.requires.fits
+
+pub act_at-requires-clause-small : goal.act_at-requires-clause-small
+act_at-requires-clause-small g c =
+    let is = c.as_slice-shape.ensures.value in
+    let tall = one_height c.args.store.now (length c.args.lsta.now.shape.items) c.height-levels.result c.args.lsta.now.root (shape_height c.args.store.now c.args.lsta.now.shape.items c.args.lsta.now.root c.requires.fits) c.height-levels.ensures in
+    let same = ap length is in
+    omega arith
