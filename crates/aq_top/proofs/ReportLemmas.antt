@@ -1,5 +1,5 @@
 -- Reports of several verdicts: how they grow, their counts and their status.
-use Rattle.std.proofs.Common.{◌≡◌, ℕ, zero, suc, ◌+◌, ◌<◌, ◌≤◌, Bool, true, false, cond, List, [], ◌∷◌, ◌++◌, All, length, map, take, drop, get_or, count_by, Result, Ok, Err, IfOk, nat_lt, refl, ap, ap₂, sym, ◌∙◌, subst, arith, append-nil, append_assoc, add-one, take-append-drop, min, ◌^◌, ◌-◌, ◌||◌, if◌then◌else◌}
+use Rattle.std.proofs.Common.{◌≡◌, ℕ, zero, suc, ◌+◌, ◌<◌, ◌≤◌, Bool, true, false, List, [], ◌∷◌, ◌++◌, All, length, map, take, drop, get_or, count_by, Result, Ok, Err, IfOk, nat_lt, refl, ap, ap₂, sym, ◌∙◌, subst, arith, append-nil, append_assoc, add-one, take-append-drop, min, ◌^◌, ◌-◌, ◌||◌, if◌then◌else◌}
 use Rattle.std.proofs.lemmas.List.{length-take, take_all}
 use Rattle.std.specs.List.{list_any}
 use Rattle.std.proofs.lemmas.Bool.Decides.{nat_tests}

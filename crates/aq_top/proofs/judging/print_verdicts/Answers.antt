@@ -1,4 +1,4 @@
-use Rattle.std.proofs.Common.{◌≡◌, ◌<◌, ℕ, List, Err, ap, ◌∙◌, subst, length, get_or}
+use Rattle.std.proofs.Common.{◌<◌, List, Err, ap, ◌∙◌, subst, length, get_or}
 use Rattle.std.proofs.lemmas.Result.{err_from_is_err_and}
 use Rattle.aq_obligations.specs.declared.bound.Obligation.{Obligation}
 use Rattle.aq_top.proofs.ReportLemmas.{so_far_first, so_far_next, so_far_stop, few_so_far}
