@@ -1,0 +1,6 @@
+pub mod MemberLemmas
+pub mod StepLemmas
+pub mod AlikeLemmas
+pub mod HeldLemmas
+pub mod PlaceLemmas
+pub mod ValidLemmas
