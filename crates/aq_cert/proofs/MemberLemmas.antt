@@ -2,7 +2,7 @@
 use Rattle.std.proofs.Common.{◌≡◌, ℕ, zero, suc, ◌+◌, ◌<◌, ◌≤◌, ◌⊎◌, inl, inr, List, [], ◌∷◌, length, map, slice_get, get_or, Option, Some, None, Contains, refl, sym, ap, subst, ◌∙◌, arith}
 use Rattle.std.proofs.lemmas.Option.{slice_get_within}
 use Rattle.aq_store.proofs.TableLemmas.{slice_get-some}
-use Rattle.aq_cert.specs.Rows.{item_of, item_at, list_of, row_at, row_length}
+use Rattle.aq_cert.specs.Rows.{item_of, item_at, row_of, row_length}
 
 module _ {X : Type 0} where
   pub in-head : (x : X) (xs : List X) → Contains (x ∷ xs) x
@@ -42,14 +42,14 @@ module _ {X : Type 0} where
   pub item-within : (rows : List (List X)) (k i : ℕ) (x : X) → item_at rows k i ≡ Some x → i < row_length rows k
   item-within rows k i x e = by (slice_get rows k) e
     where
-      by : (o : Option (List X)) → item_of o i ≡ Some x → i < length (list_of o)
+      by : (o : Option (List X)) → item_of o i ≡ Some x → i < row_of o
       by None h = cc
       by (Some xs) h = slice_get_within xs i x h
 
   pub item-some : (rows : List (List X)) (k i : ℕ) → i < row_length rows k → (x : X) × (item_at rows k i ≡ Some x)
   item-some rows k i less = by (slice_get rows k) less
     where
-      by : (o : Option (List X)) → i < length (list_of o) → (x : X) × (item_of o i ≡ Some x)
+      by : (o : Option (List X)) → i < row_of o → (x : X) × (item_of o i ≡ Some x)
       by None h = absurd (omega arith)
       by (Some xs) h = slice_get-some xs i h
 

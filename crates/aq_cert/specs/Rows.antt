@@ -19,6 +19,11 @@ list_of (Some xs) = xs
 abbrev pub row_at : {X : Type 0} → List (List X) → ℕ → List X
 row_at rows k = list_of (slice_get rows k)
 
+-- how many items a row has that may be there
+abbrev pub row_of : {X : Type 0} → Option (List X) → ℕ
+row_of None = 0
+row_of (Some xs) = length xs
+
 -- how many items a row has
 abbrev pub row_length : {X : Type 0} → List (List X) → ℕ → ℕ
-row_length rows k = length (row_at rows k)
+row_length rows k = row_of (slice_get rows k)

@@ -1,0 +1,78 @@
+//! Inclusion: each nonzero vector of an automaton is a multiple of one of others.
+ghost use Rattle.std.specs.Prelude.{◌≡◌, ◌<◌, ◌+◌, ◌*◌, ◌^◌, ℕ, [], ◌∷◌, length, slice_get, Some, IfOk, IfErr};
+ghost use Rattle.aq_store.specs.Nodes.{FitsStore};
+ghost use Rattle.aq_store.specs.declared.lsta.Lsta.{Lsta};
+ghost use Rattle.aq_cert.specs.declared.cert.Rel.{Rel};
+ghost use Rattle.aq_cert.specs.Goals.{goal_rest};
+ghost use Rattle.aq_include.specs.Costs.{Takes, IsCause, weight};
+ghost use Rattle.aq_include.specs.Answers.{Answers, StopsFor, IsRootRel, goal_words, search_budget};
+
+use crate::search::{Found, visit};
+use crate::table::Table;
+use aq_cert::{Cert, Macro, Rel};
+use aq_label::Label;
+use aq_store::{Lsta, Steps, Stop, Store};
+use sqlite_items::Items;
+use std::alloc::{AllocError, Global};
+
+/// Whether each nonzero vector of the left has a match.
+#[derive(Debug, Drop)]
+pub enum Answer {
+    /// It has, as the certificate shows.
+    Included(Cert),
+    /// The least word whose vector isn't zero and has none.
+    Escapes(Items<u32>),
+}
+
+/// The roots, each goal's with the left's.
+fn root_macro(alloc: Global, left: &Lsta, goals: &[Lsta]) -> Result<Macro, AllocError>
+    requires { length goals.now < 2 ^ 32 }
+    ensures domain { IfOk result (λ m. m.domain ≡ left.now.root ∷ []) }
+    ensures rels { IfOk result (λ m. (k : ℕ) (rel : Rel) → slice_get m.rels k ≡ Some rel → IsRootRel left.now.root goals.now k rel) }
+    ensures count { IfOk result (λ m. length m.rels ≡ length goals.now) }
+    ensures weight { IfOk result (λ m. weight (goal_rest goals.now 0) m ≡ 1 + goal_words goals.now) }
+{
+    let root = left.root.place();
+    let mut rels = Items::new(alloc);
+    for number in 0..goals.len() {
+        let goal = &goals[number];
+        let pairs = Items::from_slice(alloc, &[(root, goal.root.place())])?;
+        rels.push(Rel {
+            goal: number as u32,
+            pairs,
+        })?;
+    }
+    let domain = Items::from_slice(alloc, &[root])?;
+    Ok(Macro { domain, rels })
+}
+
+/// Looks for a match of each vector of the left, in the order of its words.
+pub fn include<L: Label>(
+    store: &Store<L>,
+    alloc: Global,
+    left: &Lsta,
+    goals: &[Lsta],
+    steps: &mut Steps,
+) -> Result<Answer, Stop<L>>
+    requires left { FitsStore store.now left.now }
+    requires goals { (g : ℕ) (goal : Lsta) → slice_get goals.now g ≡ Some goal → FitsStore store.now goal }
+    requires one_length { (g : ℕ) (goal : Lsta) → slice_get goals.now g ≡ Some goal → length goal.shape.items ≡ length left.now.shape.items }
+    requires levels { length left.now.shape.items < 2 ^ 32 }
+    requires few { length goals.now < 2 ^ 32 }
+    ensures answer { IfOk result (λ a. Answers L.parts store.now left.now goals.now a) }
+    ensures wide { IfErr result (λ e. StopsFor L.parts store.now left.now goals.now e) }
+    ensures takes { Takes (search_budget left.now goals.now) steps.old steps.new }
+    ensures spent { IfErr result (λ e. IsCause (search_budget left.now goals.now) steps.old e) }
+{
+    let _taken = steps.taken();
+    let Ok(mut table) = Table::new(alloc, left.shape.len()) else {
+        return Err(Stop::Memory);
+    };
+    let Ok(root) = root_macro(alloc, left, goals) else {
+        return Err(Stop::Memory);
+    };
+    match visit(store, alloc, left, goals, &mut table, 0, root, steps)? {
+        Found::Reached(_) => Ok(Answer::Included(table.into_cert())),
+        Found::Escapes(word) => Ok(Answer::Escapes(word)),
+    }
+}
