@@ -3,4 +3,5 @@ pub mod StepLemmas
 pub mod AlikeLemmas
 pub mod HeldLemmas
 pub mod PlaceLemmas
+pub mod PlacedLemmas
 pub mod ValidLemmas

@@ -4,4 +4,5 @@ pub mod Goals
 pub mod Macros
 pub mod Valid
 pub mod Held
+pub mod Placed
 pub mod Laws

@@ -2,6 +2,9 @@
 #![tactic(auto)]
 
 mod cert;
+mod index;
 pub mod laws;
+mod placed;
 
 pub use cert::{Cert, Edge, End, Macro, Rel};
+pub use placed::with_places;
