@@ -4,4 +4,5 @@ pub mod AlikeLemmas
 pub mod HeldLemmas
 pub mod PlaceLemmas
 pub mod PlacedLemmas
+pub mod ReadLemmas
 pub mod ValidLemmas

@@ -30,7 +30,7 @@ module _ {L : Type 0} (table : List (Node L)) where
       → HasShape table (drop k lsta.shape.items) (slice_index (row_at (levels_of table lsta) k) p)
   place-shape lsta fits k p less = level-shape lsta.shape.items (lsta.root ∷ []) (one-root lsta.shape.items lsta.root fits) k p less
 
-  first-level : (shape level : List ℕ) → row_at (levels_from table shape level) 0 ≡ level
+  pub first-level : (shape level : List ℕ) → row_at (levels_from table shape level) 0 ≡ level
   first-level [] level = refl
   first-level (n ∷ shape) level = refl
 

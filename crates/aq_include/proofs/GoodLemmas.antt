@@ -18,7 +18,7 @@ use Rattle.aq_cert.specs.Held.{IsHeld}
 use Rattle.aq_cert.proofs.MemberLemmas.{same_item}
 use Rattle.aq_cert.proofs.StepLemmas.{amplitudes-past, amplitudes-long, amplitudes-short, zero-none}
 use Rattle.aq_cert.proofs.HeldLemmas.{goals_below, edge-holds}
-use Rattle.aq_include.specs.Good.{IsRoot, IsGood, IsCertified}
+use Rattle.aq_include.specs.Good.{IsRoot, IsGood}
 
 module _ {L : Type 0} (parts : L → List Amplitude) (table : List (Node L)) where
   pub good-holds : (goals : List Lsta) (macros : List (List Macro)) (edges : List (List (List Edge))) (ends : List End) (shape : List ℕ) (k i : ℕ) (m : Macro)
@@ -65,9 +65,3 @@ module _ {L : Type 0} (parts : L → List Amplitude) (table : List (Node L)) whe
           same = h.related.same (left.root, g.0.root) g.2;
         };
       }
-
-  pub certified-included : (left : Lsta) (goals : List Lsta) (cert : Cert) → IsCertified parts table left goals cert → Included parts table left goals
-  certified-included left goals cert c word nonzero =
-      root-matched left goals c.first c.root word
-      (good-holds goals cert.macros cert.edges cert.ends left.shape.items 0 0 c.first (c.good 0 0 c.first c.here) c.here word)
-      nonzero

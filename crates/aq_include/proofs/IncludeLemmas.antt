@@ -16,8 +16,11 @@ use Rattle.aq_cert.specs.Meaning.{amplitudes, Included}
 use Rattle.aq_cert.specs.Rows.{item_of, item_at}
 use Rattle.aq_cert.specs.Goals.{rest_of, goal_rest}
 use Rattle.aq_cert.specs.Macros.{IsOfLevel}
-use Rattle.aq_include.specs.Good.{IsRoot, IsCertified}
-use Rattle.aq_include.proofs.GoodLemmas.{certified-included}
+use Rattle.aq_include.specs.Good.{IsRoot}
+use Rattle.aq_cert.specs.Valid.{IsValid}
+use Rattle.aq_cert.specs.Placed.{ArePlaced}
+use Rattle.aq_include.proofs.GoodLemmas.{good-holds, root-matched}
+use Rattle.aq_include.proofs.CertLemmas.{valid-written}
 use Rattle.aq_include.specs.declared.table.Table.{Table}
 use Rattle.aq_store.specs.declared.store.Stop.{Stop}
 use Rattle.aq_store.specs.declared.store.Stop.TheVariants as stop
@@ -113,20 +116,18 @@ module _ {L : Type 0} (parts : L → List Amplitude) (table : List (Node L)) whe
   fresh-table shape goals t h = record { even = h.even; good = λ k i m here. absurd (no-row t.macros.items k i m (h.none k) here) }
 
   -- the certificate of a table in which the root was reached
-  pub certified : (left : Lsta) (goals : List Lsta) (m : Macro) (old new : Table) (i : ℕ) (cert : Cert) → IsWholeRoot left goals m → IsFresh (length left.shape.items) old
-      → IsReached parts table left.shape.items goals 0 m old new i → cert.macros ≡ new.macros.items → cert.edges ≡ new.edges.items → cert.ends ≡ new.ends
-      → IsCertified parts table left goals cert × Included parts table left goals
-  certified left goals m old new i cert r f h a b d =
+  pub certified : (left : Lsta) (goals : List Lsta) (m : Macro) (old new : Table) (i : ℕ) (rows : List (List Macro)) (cert : Cert) → IsWholeRoot left goals m → IsFresh (length left.shape.items) old
+      → IsReached parts table left.shape.items goals 0 m old new i → ArePlaced table left goals new.macros.items rows → cert.macros ≡ rows → cert.edges ≡ new.edges.items → cert.ends ≡ new.ends
+      → IsValid parts table left goals cert × Included parts table left goals
+  certified left goals m old new i rows cert r f h p a b d =
       let place : i ≡ 0 = elim h.fresh [ inl there ↦ absurd (no-row old.macros.items 0 i m (f.none 0) there) | inr e ↦ e ∙ f.none 0 ] in
-      let plain : IsCertified parts table left goals (record { macros = new.macros.items; edges = new.edges.items; ends = new.ends }) = record {
-        good = λ k j n here. h.grown.good k j n here;
-        first = m;
-        here = ap (item_at new.macros.items 0) (sym place) ∙ h.here;
-        root = r.is_root;
-      } in
-      let same : record { macros = new.macros.items; edges = new.edges.items; ends = new.ends } ≡ cert = λ j. record { macros = sym a j; edges = sym b j; ends = sym d j } in
-      let c : IsCertified parts table left goals cert = subst (IsCertified parts table left goals) same plain in
-      (c, certified-included parts table left goals cert c)
+      let first : item_at new.macros.items 0 0 ≡ Some m = ap (item_at new.macros.items 0) (sym place) ∙ h.here in
+      let plain = valid-written parts table left goals m new rows r h.grown first p in
+      let same : record { macros = rows; edges = new.edges.items; ends = new.ends } ≡ cert = λ j. record { macros = sym a j; edges = sym b j; ends = sym d j } in (
+        subst (IsValid parts table left goals) same plain,
+        λ word nonzero. root-matched parts table left goals m r.is_root word
+            (good-holds parts table goals new.macros.items new.edges.items new.ends left.shape.items 0 0 m (h.grown.good 0 0 m first) first word) nonzero,
+      )
 
   pub wide-inclusion : (left : Lsta) (goals : List Lsta) (m : Macro) → IsWholeRoot left goals m → (e : Stop L) → StopsWide parts table m e → StopsFor parts table left goals e
   wide-inclusion left goals m r stop.Spent h = tt

@@ -10,4 +10,5 @@ pub mod BudgetLemmas
 pub mod EndLemmas
 pub mod SearchLemmas
 pub mod TurnLemmas
+pub mod CertLemmas
 pub mod IncludeLemmas

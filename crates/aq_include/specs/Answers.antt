@@ -6,7 +6,7 @@ use Rattle.aq_store.specs.declared.node.Node.{Node}
 use Rattle.aq_store.specs.declared.lsta.Lsta.{Lsta}
 use Rattle.aq_cert.specs.declared.cert.Rel.{Rel}
 use Rattle.aq_cert.specs.Meaning.{amplitudes, Included, IsLeastEscape}
-use Rattle.aq_include.specs.Good.{IsCertified}
+use Rattle.aq_cert.specs.Valid.{IsValid}
 use Rattle.aq_include.specs.declared.table.Table.{Table}
 use Rattle.aq_store.specs.declared.store.Stop.{Stop}
 use Rattle.aq_store.specs.declared.store.Stop.TheVariants as stop
@@ -49,7 +49,7 @@ module _ {L : Type 0} (parts : L → List Amplitude) (table : List (Node L)) whe
     pub unfit : ¬ (FitsAmplitudeProduct l r)
 
   abbrev pub Answers : Lsta → List Lsta → Answer → Type 0
-  Answers left goals (answer.Included cert) = IsCertified parts table left goals cert × Included parts table left goals
+  Answers left goals (answer.Included cert) = IsValid parts table left goals cert × Included parts table left goals
   Answers left goals (answer.Escapes word) = IsLeastEscape parts table left goals word
 
   abbrev pub StopsFor : Lsta → List Lsta → Stop L → Type 0

@@ -36,10 +36,3 @@ module _ {L : Type 0} (parts : L → List Amplitude) (table : List (Node L)) whe
       × ((c : ℕ) (e : Edge) → slice_get es c ≡ Some e
       → (to : Macro) × (item_at macros (k + 1) e.to ≡ Some to) × IsEdge table c (goal_rest goals k) m to e.from
       × IsGood goals macros edges ends shape (k + 1) e.to))
-
-  -- each macro of each level is good, and the first of the first level begins at the roots
-  pub record IsCertified (left : Lsta) (goals : List Lsta) (cert : Cert) : Type 0 where
-    pub good : (k i : ℕ) (m : Macro) → item_at cert.macros k i ≡ Some m → IsGood goals cert.macros cert.edges cert.ends (drop k left.shape.items) k i
-    pub first : Macro
-    pub here : item_at cert.macros 0 0 ≡ Some first
-    pub root : IsRoot left goals first

@@ -10,7 +10,7 @@ use Rattle.aq_cert.specs.declared.cert.Cert.{Cert}
 use Rattle.aq_cert.specs.Rows.{item_at}
 use Rattle.aq_cert.specs.Goals.{goal_rest}
 use Rattle.aq_cert.specs.Macros.{IsEdge}
-use Rattle.aq_include.specs.Good.{IsGood, IsCertified}
+use Rattle.aq_include.specs.Good.{IsGood}
 use Rattle.aq_cert.specs.Meaning.{IsLeastEscape}
 use Rattle.aq_include.specs.declared.table.Table.{Table}
 use Rattle.aq_include.specs.declared.search.Found.{Found}

@@ -1,15 +1,14 @@
 //! Inclusion: each nonzero vector of an automaton is a multiple of one of others.
 ghost use Rattle.std.specs.Prelude.{◌≡◌, ◌<◌, ◌+◌, ◌*◌, ◌^◌, ℕ, [], ◌∷◌, length, slice_get, Some, IfOk, IfErr};
-ghost use Rattle.aq_store.specs.Nodes.{FitsStore};
 ghost use Rattle.aq_store.specs.declared.lsta.Lsta.{Lsta};
 ghost use Rattle.aq_cert.specs.declared.cert.Rel.{Rel};
-ghost use Rattle.aq_cert.specs.Goals.{goal_rest};
+ghost use Rattle.aq_cert.specs.Goals.{goal_rest, FitTogether};
 ghost use Rattle.aq_include.specs.Costs.{Takes, IsCause, weight};
 ghost use Rattle.aq_include.specs.Answers.{Answers, StopsFor, IsRootRel, goal_words, search_budget};
 
 use crate::search::{Found, visit};
 use crate::table::Table;
-use aq_cert::{Cert, Macro, Rel};
+use aq_cert::{Cert, Macro, Rel, with_places};
 use aq_label::Label;
 use aq_store::{Lsta, Steps, Stop, Store};
 use sqlite_items::Items;
@@ -54,10 +53,7 @@ pub fn include<L: Label>(
     goals: &[Lsta],
     steps: &mut Steps,
 ) -> Result<Answer, Stop<L>>
-    requires left { FitsStore store.now left.now }
-    requires goals { (g : ℕ) (goal : Lsta) → slice_get goals.now g ≡ Some goal → FitsStore store.now goal }
-    requires one_length { (g : ℕ) (goal : Lsta) → slice_get goals.now g ≡ Some goal → length goal.shape.items ≡ length left.now.shape.items }
-    requires levels { length left.now.shape.items < 2 ^ 32 }
+    requires fits { FitTogether store.now left.now goals.now }
     requires few { length goals.now < 2 ^ 32 }
     ensures answer { IfOk result (λ a. Answers L.parts store.now left.now goals.now a) }
     ensures wide { IfErr result (λ e. StopsFor L.parts store.now left.now goals.now e) }
@@ -65,6 +61,9 @@ pub fn include<L: Label>(
     ensures spent { IfErr result (λ e. IsCause (search_budget left.now goals.now) steps.old e) }
 {
     let _taken = steps.taken();
+    let Ok(_levels) = u32::try_from(left.shape.len()) else {
+        return Err(Stop::Memory);
+    };
     let Ok(mut table) = Table::new(alloc, left.shape.len()) else {
         return Err(Stop::Memory);
     };
@@ -72,7 +71,12 @@ pub fn include<L: Label>(
         return Err(Stop::Memory);
     };
     match visit(store, alloc, left, goals, &mut table, 0, root, steps)? {
-        Found::Reached(_) => Ok(Answer::Included(table.into_cert())),
+        Found::Reached(_) => {
+            let Ok(places) = with_places(store, alloc, left, goals, table.macros.as_slice()) else {
+                return Err(Stop::Memory);
+            };
+            Ok(Answer::Included(table.into_cert(places)))
+        }
         Found::Escapes(word) => Ok(Answer::Escapes(word)),
     }
 }

@@ -94,20 +94,20 @@ impl Table {
         })
     }
 
-    /// The certificate that the good macros are.
-    pub(crate) fn into_cert(self) -> Cert
-        ensures macros { result.macros ≡ self.macros.items }
+    /// The certificate with these macros, and the table's edges and ends.
+    pub(crate) fn into_cert(self, places: Items<Items<Macro>>) -> Cert
+        ensures macros { result.macros ≡ places }
         ensures edges { result.edges ≡ self.edges.items }
         ensures ends { result.ends ≡ self.ends }
     {
         let Table {
-            macros,
+            macros: _,
             edges,
             ends,
             found: _,
         } = self;
         Cert {
-            macros: Items::from_vec(macros),
+            macros: places,
             edges: Items::from_vec(edges),
             ends,
         }
