@@ -11,4 +11,5 @@ pub mod EndLemmas
 pub mod SearchLemmas
 pub mod TurnLemmas
 pub mod CertLemmas
+pub mod SizeLemmas
 pub mod IncludeLemmas

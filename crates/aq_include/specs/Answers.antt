@@ -1,10 +1,14 @@
 -- What the search answers.
-use Rattle.std.specs.Prelude.{◌≡◌, ℕ, ◌+◌, ◌*◌, ◌^◌, List, [], ◌∷◌, length, sum_by, slice_get, Some, Contains}
+use Rattle.std.specs.Prelude.{◌≡◌, ◌≤◌, ℕ, ◌+◌, ◌*◌, ◌^◌, List, [], ◌∷◌, length, sum_by, slice_get, Some, Contains}
 use Rattle.aq_ring.specs.Fractions.{Amplitude}
 use Rattle.aq_ring.specs.Amplitudes.{FitsAmplitudeProduct}
 use Rattle.aq_store.specs.declared.node.Node.{Node}
 use Rattle.aq_store.specs.declared.lsta.Lsta.{Lsta}
+use Rattle.aq_store.specs.Count.{Count}
 use Rattle.aq_cert.specs.declared.cert.Rel.{Rel}
+use Rattle.aq_cert.specs.declared.cert.Macro.{Macro}
+use Rattle.aq_cert.specs.declared.cert.Cert.{Cert}
+use Rattle.aq_include.specs.Costs.{size}
 use Rattle.aq_cert.specs.Meaning.{amplitudes, Included, IsLeastEscape}
 use Rattle.aq_cert.specs.Valid.{IsValid}
 use Rattle.aq_include.specs.declared.table.Table.{Table}
@@ -35,6 +39,15 @@ goal_words goals = sum_by (λ (goal : Lsta). words goal.shape.items) goals
 -- what the whole search takes at most
 abbrev pub search_budget : Lsta → List Lsta → ℕ
 search_budget left goals = 2 * (words left.shape.items * (1 + goal_words goals) * 2 ^ length left.shape.items)
+
+-- how many domain members and pairs the macros of a certificate have
+abbrev pub cert_size : Cert → ℕ
+cert_size cert = sum_by (λ (row : List Macro). sum_by size row) cert.macros
+
+-- a certificate is no larger than the steps allow that were taken for it
+abbrev pub IsPaid : List Lsta → Count → Count → Answer → Type 0
+IsPaid goals before now (answer.Included cert) = cert_size cert + 2 * before.taken ≤ 2 * now.taken + 1 + length goals
+IsPaid goals before now (answer.Escapes word) = Unit {0}
 
 module _ {L : Type 0} (parts : L → List Amplitude) (table : List (Node L)) where
   -- a product of an entry of a left word's vector and one of a goal word's vector doesn't fit

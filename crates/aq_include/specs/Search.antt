@@ -2,6 +2,7 @@
 use Rattle.std.specs.Prelude.{◌≡◌, ◌⊎◌, ℕ, ◌+◌, ◌*◌, ◌<◌, ◌≤◌, ◌^◌, List, [], ◌∷◌, length, drop, sum_by, slice_get, Some, IfOk}
 use Rattle.aq_ring.specs.Fractions.{Amplitude}
 use Rattle.aq_store.specs.declared.node.Node.{Node}
+use Rattle.aq_store.specs.Count.{Count}
 use Rattle.aq_store.specs.declared.lsta.Lsta.{Lsta}
 use Rattle.aq_cert.specs.declared.cert.Macro.{Macro}
 use Rattle.aq_cert.specs.declared.cert.Edge.{Edge}
@@ -38,6 +39,16 @@ pub record IsEven (n : ℕ) (t : Table) : Type 0 where
 -- how much the macros take in a certificate
 abbrev pub table_size : Table → ℕ
 table_size t = sum_by (λ (row : List Macro). sum_by size row) t.macros.items
+
+-- the table grew by what steps were taken for, and by a macro that was there before them
+abbrev pub GrowsWith : ℕ → Table → Table → Count → Count → Found → Type 0
+GrowsWith extra old new before now (found.Reached i) = table_size new + 2 * before.taken ≤ table_size old + extra + 2 * now.taken
+GrowsWith extra old new before now (found.Escapes word) = Unit {0}
+
+-- the table grew by what steps were taken for
+abbrev pub GrowsBy : Table → Table → Count → Count → Followed → Type 0
+GrowsBy old new before now (followed.Leads e) = table_size new + 2 * before.taken ≤ table_size old + 2 * now.taken
+GrowsBy old new before now (followed.Escapes word) = Unit {0}
 
 module _ {L : Type 0} (table : List (Node L)) where
   -- the edge leads to a good macro of the next level

@@ -3,8 +3,8 @@ ghost use Rattle.std.specs.Prelude.{◌≡◌, ◌<◌, ◌+◌, ◌*◌, ◌^�
 ghost use Rattle.aq_store.specs.declared.lsta.Lsta.{Lsta};
 ghost use Rattle.aq_cert.specs.declared.cert.Rel.{Rel};
 ghost use Rattle.aq_cert.specs.Goals.{goal_rest, FitTogether};
-ghost use Rattle.aq_include.specs.Costs.{Takes, IsCause, weight};
-ghost use Rattle.aq_include.specs.Answers.{Answers, StopsFor, IsRootRel, goal_words, search_budget};
+ghost use Rattle.aq_include.specs.Costs.{Takes, IsCause, weight, size};
+ghost use Rattle.aq_include.specs.Answers.{Answers, IsPaid, StopsFor, IsRootRel, goal_words, search_budget};
 
 use crate::search::{Found, visit};
 use crate::table::Table;
@@ -29,6 +29,7 @@ fn root_macro(alloc: Global, left: &Lsta, goals: &[Lsta]) -> Result<Macro, Alloc
     ensures domain { IfOk result (λ m. m.domain ≡ left.now.root ∷ []) }
     ensures rels { IfOk result (λ m. (k : ℕ) (rel : Rel) → slice_get m.rels k ≡ Some rel → IsRootRel left.now.root goals.now k rel) }
     ensures count { IfOk result (λ m. length m.rels ≡ length goals.now) }
+    ensures size { IfOk result (λ m. size m ≡ 1 + length goals.now) }
     ensures weight { IfOk result (λ m. weight (goal_rest goals.now 0) m ≡ 1 + goal_words goals.now) }
 {
     let root = left.root.place();
@@ -56,6 +57,7 @@ pub fn include<L: Label>(
     requires fits { FitTogether store.now left.now goals.now }
     requires few { length goals.now < 2 ^ 32 }
     ensures answer { IfOk result (λ a. Answers L.parts store.now left.now goals.now a) }
+    ensures size { IfOk result (λ a. IsPaid goals.now steps.old steps.new a) }
     ensures wide { IfErr result (λ e. StopsFor L.parts store.now left.now goals.now e) }
     ensures takes { Takes (search_budget left.now goals.now) steps.old steps.new }
     ensures spent { IfErr result (λ e. IsCause (search_budget left.now goals.now) steps.old e) }

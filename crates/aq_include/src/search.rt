@@ -3,9 +3,9 @@ ghost use Rattle.std.specs.Prelude.{◌≡◌, ◌<◌, ◌≤◌, ◌+◌, ◌*
 ghost use Rattle.aq_cert.specs.Macros.{IsOfLevel};
 ghost use Rattle.aq_cert.specs.Goals.{goal_rest};
 ghost use Rattle.aq_cert.specs.Held.{IsHeld};
-ghost use Rattle.aq_include.specs.Costs.{Takes, IsCause, weight, budget, turn_budget};
+ghost use Rattle.aq_include.specs.Costs.{Takes, IsCause, weight, size, budget, turn_budget};
 ghost use Rattle.aq_include.specs.Ends.{StopsWide};
-ghost use Rattle.aq_include.specs.Search.{IsTable, Finds, Follows};
+ghost use Rattle.aq_include.specs.Search.{IsTable, Finds, Follows, GrowsWith, GrowsBy};
 
 use crate::end::find_end;
 use crate::step::step;
@@ -78,6 +78,7 @@ fn finish<L: Label>(
     requires here { IsOfLevel store.now (drop level left.now.shape.items) (goal_rest goals.now level) here }
     requires table { IsTable L.parts store.now left.now.shape.items goals.now table.old }
     ensures finds { IfOk result (λ f. Finds L.parts store.now left.now.shape.items goals.now level here table.old table.new f) }
+    ensures size { IfOk result (λ f. GrowsWith (size here) table.old table.new steps.old steps.new f) }
     ensures wide { IfErr result (λ e. StopsWide L.parts store.now here e) }
     ensures takes { Takes (weight (goal_rest goals.now level) here) steps.old steps.new }
     ensures spent { IfErr result (λ e. IsCause (weight (goal_rest goals.now level) here) steps.old e) }
@@ -111,6 +112,7 @@ pub(crate) fn visit<L: Label>(
     requires here { IsOfLevel store.now (drop level left.now.shape.items) (goal_rest goals.now level) here }
     requires table { IsTable L.parts store.now left.now.shape.items goals.now table.old }
     ensures finds { IfOk result (λ f. Finds L.parts store.now left.now.shape.items goals.now level here table.old table.new f) }
+    ensures size { IfOk result (λ f. GrowsWith (size here) table.old table.new steps.old steps.new f) }
     ensures wide { IfErr result (λ e. StopsWide L.parts store.now here e) }
     ensures takes { Takes (budget (drop level left.now.shape.items) (weight (goal_rest goals.now level) here)) steps.old steps.new }
     ensures spent { IfErr result (λ e. IsCause (budget (drop level left.now.shape.items) (weight (goal_rest goals.now level) here)) steps.old e) }
@@ -162,6 +164,7 @@ fn follow<L: Label>(
     requires table { IsTable L.parts store.now left.now.shape.items goals.now table.old }
     requires before { (d : ℕ) (word : List ℕ) → d < choice → IsHeld L.parts store.now (goal_rest goals.now level) here.now (d ∷ word) }
     ensures follows { IfOk result (λ f. Follows L.parts store.now left.now.shape.items goals.now level choice here.now table.old table.new f) }
+    ensures size { IfOk result (λ f. GrowsBy table.old table.new steps.old steps.new f) }
     ensures wide { IfErr result (λ e. StopsWide L.parts store.now here.now e) }
     ensures takes { Takes (turn_budget (drop (level + 1) left.now.shape.items) (weight (goal_rest goals.now level) here.now)) steps.old steps.new }
     ensures spent { IfErr result (λ e. IsCause (turn_budget (drop (level + 1) left.now.shape.items) (weight (goal_rest goals.now level) here.now)) steps.old e) }

@@ -1,12 +1,13 @@
 use Rattle.std.proofs.Common.{◌≡◌, ℕ, List, length, sym, subst, arith}
 use Rattle.aq_cert.specs.Goals.{goal_rest}
 use Rattle.aq_cert.specs.Placed.{ArePlaced}
-use Rattle.aq_include.specs.Costs.{Takes, IsCause, weight}
+use Rattle.aq_include.specs.Costs.{Takes, IsCause, weight, size}
 use Rattle.aq_include.specs.Answers.{IsFresh, StopsFor, search_budget}
-use Rattle.aq_include.specs.Search.{Finds}
+use Rattle.aq_include.specs.Search.{Finds, GrowsWith}
 use Rattle.aq_include.proofs.Passed.{passed}
 use Rattle.aq_include.proofs.TurnLemmas.{takes-within, cause-within}
 use Rattle.aq_include.proofs.LeastLemmas.{least-escape}
+use Rattle.aq_include.proofs.SizeLemmas.{cert-paid}
 use Rattle.aq_include.proofs.IncludeLemmas.{whole-root, root-level, fresh-table, certified, wide-inclusion, budget-within}
 use Rattle.aq_include.proofs.inclusion.include.Goals as goal
 
@@ -57,3 +58,10 @@ returns-in-Escapes-clause-answer g c =
 pub returns-in-Escapes-clause-takes : goal.returns-in-Escapes-clause-takes
 returns-in-Escapes-clause-takes g c =
     takes-within _ _ c.args.steps.now c.visit.new.steps (budget-within g.L.Label.parts c.args.store.now c.args.left.now c.args.goals.now (weight (goal_rest c.args.goals.now 0) c.in-Ok-root_macro.root) c.requires.fits.left_fits c.in-Ok-root_macro.ensures.weight) c.visit.ensures.takes
+
+pub returns-in-Ok-with_places-clause-size : goal.returns-in-Ok-with_places-clause-size
+returns-in-Ok-with_places-clause-size g c =
+    cert-paid c.args.store.now c.args.left.now c.args.goals.now c.visit.new.table c.in-Ok-with_places.places c.into_cert.result c.in-Ok-root_macro.root c.in-Ok-new.table c.len-2.result c.args.steps.now c.visit.new.steps
+    (subst (λ l. ArePlaced c.args.store.now c.args.left.now c.args.goals.now l c.in-Ok-with_places.places) c.as_slice.ensures.value c.in-Ok-with_places.ensures) c.into_cert.ensures.macros c.in-Ok-new.ensures
+    c.in-Ok-root_macro.ensures.size
+    (subst (λ f. GrowsWith (size c.in-Ok-root_macro.root) c.in-Ok-new.table c.visit.new.table c.args.steps.now c.visit.new.steps f) c.in-Reached.is c.in_ok-visit.ensures.size)

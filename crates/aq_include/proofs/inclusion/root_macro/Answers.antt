@@ -4,6 +4,7 @@ use Rattle.std.proofs.lemmas.Option.{slice_get-get_or}
 use Rattle.aq_store.specs.declared.lsta.Lsta.{Lsta}
 use Rattle.aq_cert.specs.declared.cert.Rel.{Rel}
 use Rattle.aq_include.specs.Answers.{IsRootRel}
+use Rattle.aq_include.proofs.SizeLemmas.{root-size}
 use Rattle.aq_include.proofs.IncludeLemmas.{root-more, weight-more}
 use Rattle.aq_include.proofs.inclusion.root_macro.Goals as goal
 
@@ -23,3 +24,8 @@ loop-number-preserved c =
 
 pub returns-clause-rels : goal.returns-clause-rels
 returns-clause-rels c = λ k rel here. subst (λ (r : ℕ). IsRootRel r c.args.goals.now k rel) c.place-root.ensures (c.loop-number.invariant.rels k rel here)
+
+pub returns-clause-size : goal.returns-clause-size
+returns-clause-size c =
+    root-size (record { domain = c.in_ok-domain.domain; rels = c.loop-number.rels }) c.place-root.result c.args.goals.now c.in_ok-domain.ensures c.loop-number.invariant.rels
+    (omega (arith, c.loop-number.invariant.count, c.loop-number-test.false, c.loop-number.auto.number-end))

@@ -4,11 +4,12 @@ use Rattle.std.proofs.lemmas.List.{drop_more, get_or_default, length-append}
 use Rattle.aq_cert.specs.declared.cert.Edge.{Edge}
 use Rattle.aq_cert.specs.Goals.{goal_rest}
 use Rattle.aq_cert.specs.Macros.{IsOfLevel}
-use Rattle.aq_include.specs.Costs.{Takes, IsCause, weight, budget, turn_budget}
+use Rattle.aq_include.specs.Costs.{Takes, IsCause, weight, size, budget, turn_budget}
 use Rattle.aq_include.specs.Ends.{StopsWide}
-use Rattle.aq_include.specs.Search.{Finds, Follows}
+use Rattle.aq_include.specs.Search.{Finds, Follows, GrowsWith, GrowsBy}
 use Rattle.aq_include.proofs.Passed.{passed}
 use Rattle.aq_include.proofs.TurnLemmas.{not-wide, stops-back, step-takes, step-cause, stepped-level, least-turn, end-budget, earlier-hold, turns-take, turns-cause, turn-takes, all-turns}
+use Rattle.aq_include.proofs.SizeLemmas.{size-push}
 use Rattle.aq_include.proofs.SearchLemmas.{extends-refl, extends-trans, leads-push, table-add, reached-from}
 use Rattle.aq_include.proofs.search.+search.Goals as goal
 
@@ -119,6 +120,7 @@ visit-loop-choice-preserved g t c =
       count = ap (λ (l : List Edge). length l) items ∙ length-append c.loop-choice.edges (c.in-Leads.edge ∷ []) ∙ ap (λ z. z + 1) c.loop-choice.invariant.count;
       leads = leads-push g.L.Label.parts c.args.store.now c.args.left.now.shape.items c.args.goals.now c.args.level c.loop-choice.choice c.args.here c.loop-choice.table c.follow.new.table c.loop-choice.edges c.push.new.self c.in-Leads.edge
           c.loop-choice.invariant.count items f.keeps c.loop-choice.invariant.leads f.leads;
+      size = (let grown = subst (λ f. GrowsBy c.loop-choice.table c.follow.new.table c.loop-choice.steps c.follow.new.steps f) c.in-Leads.is c.in_ok-edge.ensures.size in omega (arith, grown, c.loop-choice.invariant.size));
       takes = turn-takes c.loop-choice.choice _ c.args.steps.now c.loop-choice.steps c.follow.new.steps c.loop-choice.invariant.takes c.follow.ensures.takes;
     }
 
@@ -147,3 +149,14 @@ visit-returns-clause-takes g t c =
 
 pub visit-returns-in-Some-clause-finds : goal.visit-returns-in-Some-clause-finds
 visit-returns-in-Some-clause-finds g t c = record { here = c.in-Some.ensures; grown = c.requires.table; keeps = extends-refl c.args.table.now; upper = λ k less. refl; fresh = inl c.in-Some.ensures }
+
+pub visit-returns-clause-size : goal.visit-returns-clause-size
+visit-returns-clause-size g t c =
+    let inside : c.args.level < length c.args.left.now.shape.items = omega (arith, c.if-level-len.false, c.len.ensures, c.requires.level, c.args.left.now.shape.ok.0) in
+    let pushed = size-push c.args.level c.in-Ok-add.number c.args.here c.loop-choice.table c.add.new.self (omega (arith, inside, c.loop-choice.invariant.table.even.rows)) c.in-Ok-add.ensures.macros in
+    omega (arith, pushed, c.loop-choice.invariant.size)
+
+pub follow-returns-in-Reached-clause-size : goal.follow-returns-in-Reached-clause-size
+follow-returns-in-Reached-clause-size g t c =
+    let grown = subst (λ f. GrowsWith (size c.in_ok-stepped.stepped.to) c.args.table.now c.visit.new.table c.step.new.steps c.visit.new.steps f) c.in-Reached.is c.in_ok-to.ensures.size in
+    omega (arith, grown, c.in_ok-stepped.ensures.size)

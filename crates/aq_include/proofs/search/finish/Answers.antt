@@ -6,6 +6,7 @@ use Rattle.aq_include.specs.Costs.{Takes, IsCause, weight}
 use Rattle.aq_include.specs.Ends.{Ends}
 use Rattle.aq_cert.proofs.HeldLemmas.{end-holds}
 use Rattle.aq_include.proofs.Passed.{passed}
+use Rattle.aq_include.proofs.SizeLemmas.{size-push}
 use Rattle.aq_include.proofs.SearchLemmas.{table-end}
 use Rattle.aq_include.proofs.TurnLemmas.{ends-cheap, takes-within, cause-within, least-end}
 use Rattle.aq_include.proofs.search.finish.Goals as goal
@@ -57,3 +58,8 @@ returns-in-None-clause-takes g c =
     let empty = drop_all c.args.level c.args.left.now.shape.items (omega (arith, c.requires.level)) in
     let level = subst (λ l. IsOfLevel c.args.store.now l (goal_rest c.args.goals.now c.args.level) c.args.here) empty c.requires.here in
     takes-within _ _ c.args.steps.now c.find_end.new.steps (ends-cheap c.args.store.now (goal_rest c.args.goals.now c.args.level) c.args.here level) c.find_end.ensures.takes
+
+pub returns-in-Ok-clause-size : goal.returns-in-Ok-clause-size
+returns-in-Ok-clause-size g c =
+    let pushed = size-push c.args.level c.in-Ok.number c.args.here c.args.table.now c.add_last.new.self (omega (arith, c.requires.level, c.requires.table.even.rows)) c.in-Ok.ensures.macros in
+    omega (arith, pushed, c.find_end.ensures.takes.later)
