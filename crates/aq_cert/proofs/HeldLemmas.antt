@@ -1,11 +1,11 @@
 -- What holds of the macro that an edge leads to holds of the one that it leaves.
-use Rattle.std.proofs.Common.{◌≡◌, ℕ, ◌+◌, ◌<◌, ◌≤◌, ◌⊎◌, inl, inr, List, [], ◌∷◌, ◌++◌, length, drop, map, slice_get, Option, Some, None, Contains, refl, sym, ap, ap₂, subst, ◌∙◌, arith}
+use Rattle.std.proofs.Common.{◌≡◌, ℕ, ◌+◌, ◌<◌, inl, inr, List, [], ◌∷◌, ◌++◌, length, drop, slice_get, Option, Some, None, Contains, refl, sym, ap, ap₂, subst, ◌∙◌, arith}
 use Rattle.std.proofs.lemmas.List.{drop-drop}
 use Rattle.aq_ring.specs.Fractions.{Amplitude}
 use Rattle.aq_ring.specs.Vectors.{IsZeroVector, scaled}
 use Rattle.aq_store.specs.declared.node.Node.{Node}
 use Rattle.aq_store.specs.declared.lsta.Lsta.{Lsta}
-use Rattle.aq_store.specs.Nodes.{HasShape, pairs_at, IsLeaf}
+use Rattle.aq_store.specs.Nodes.{HasShape, IsLeaf}
 use Rattle.aq_store.specs.Words.{IsWord}
 use Rattle.aq_store.proofs.TableLemmas.{slice_get-some}
 use Rattle.std.proofs.lemmas.Option.{slice_get_within}
@@ -15,8 +15,8 @@ use Rattle.aq_cert.specs.declared.cert.End.{End}
 use Rattle.aq_cert.specs.declared.cert.End.TheVariants as «end»
 use Rattle.aq_cert.specs.Meaning.{amplitudes}
 use Rattle.aq_cert.specs.Goals.{rest_of, goal_rest}
-use Rattle.aq_cert.specs.Macros.{IsOfLevel, IsStepOf, IsEdge, IsZeroOn, IsRelated, IsEnd}
-use Rattle.aq_cert.specs.Held.{IsHeldBy, IsHeld}
+use Rattle.aq_cert.specs.Macros.{IsOfLevel, IsStepOf, IsEdge, IsRelated, IsEnd}
+use Rattle.aq_cert.specs.Held.{IsHeld}
 use Rattle.aq_cert.proofs.StepLemmas.{zero-append, scaled-append, children, amplitudes-step}
 use Rattle.aq_cert.proofs.AlikeLemmas.{alike-related}
 

@@ -1,5 +1,5 @@
 -- The nodes at the places of a level have its shape.
-use Rattle.std.proofs.Common.{◌≡◌, ℕ, zero, suc, ◌+◌, ◌-◌, ◌<◌, ◌≤◌, List, [], ◌∷◌, length, drop, get_or, slice_get, Option, Some, None, refl, sym, ap, subst, ◌∙◌, arith}
+use Rattle.std.proofs.Common.{◌≡◌, ℕ, zero, suc, ◌<◌, List, [], ◌∷◌, length, drop, slice_get, Some, refl, ap, subst, arith}
 use Rattle.std.specs.List.{slice_index}
 use Rattle.std.proofs.lemmas.Option.{slice_get-get_or}
 use Rattle.aq_store.specs.declared.node.Node.{Node}
@@ -7,7 +7,7 @@ use Rattle.aq_store.specs.declared.lsta.Lsta.{Lsta}
 use Rattle.aq_store.specs.Nodes.{HasShape, FitsStore}
 use Rattle.aq_store.specs.Levels.{next_level, levels_from, levels_of}
 use Rattle.aq_store.proofs.LevelLemmas.{Each, level_next}
-use Rattle.aq_cert.specs.Rows.{list_of, row_at}
+use Rattle.aq_cert.specs.Rows.{row_at}
 
 module _ {L : Type 0} (table : List (Node L)) where
   one-root : (shape : List ℕ) (root : ℕ) → HasShape table shape root → Each (HasShape table shape) (root ∷ [])

@@ -1,11 +1,11 @@
 -- Macros over nodes become macros over places one by one.
-use Rattle.std.proofs.Common.{◌≡◌, ℕ, zero, suc, ◌+◌, ◌<◌, ◌≤◌, inl, inr, List, [], ◌∷◌, ◌++◌, length, take, get_or, slice_get, Option, Some, None, Result, Ok, Err, IfOk, Vec, refl, sym, ap, subst, ◌∙◌, arith}
+use Rattle.std.proofs.Common.{◌≡◌, ℕ, zero, suc, ◌+◌, ◌<◌, ◌≤◌, inl, inr, List, [], ◌∷◌, ◌++◌, length, take, get_or, slice_get, Some, Result, Ok, Err, IfOk, Vec, refl, sym, ap, subst, ◌∙◌, arith}
 use Rattle.std.specs.List.{AllZip}
 use Rattle.std.specs.declared.alloc.Global.{Global}
-use Rattle.std.proofs.lemmas.List.{take_more, length-append}
+use Rattle.std.proofs.lemmas.List.{take_more}
 use Rattle.std.proofs.lemmas.List.Elements.{AllZip-push, all_zip_more}
 use Rattle.std.proofs.lemmas.Bool.{cases_lt}
-use Rattle.std.proofs.lemmas.Option.{slice_get-get_or, slice_get_past, slice_get_within}
+use Rattle.std.proofs.lemmas.Option.{slice_get-get_or, slice_get_within}
 use Rattle.aq_store.specs.declared.node.Node.{Node}
 use Rattle.aq_store.specs.declared.lsta.Lsta.{Lsta}
 use Rattle.aq_store.specs.Levels.{levels_of, lists_of}
@@ -14,7 +14,7 @@ use Rattle.aq_cert.specs.declared.cert.Rel.{Rel}
 use Rattle.aq_cert.specs.declared.cert.Macro.{Macro}
 use Rattle.aq_cert.specs.declared.index.Index.{Index}
 use Rattle.aq_cert.specs.Rows.{list_of, row_at}
-use Rattle.aq_cert.specs.Goals.{levels_in, goal_levels}
+use Rattle.aq_cert.specs.Goals.{goal_levels}
 use Rattle.aq_cert.specs.Valid.{left_level, goal_level}
 use Rattle.aq_cert.specs.Placed.{IsAt, IsPairAt, IsIndexOf, IsPlacedRel, IsPlacedMacro, IsFound, IsPairFound, IsRelFound, IsMacroFound, lists_in, AreIndexes, ArePlaced, AreGoalLevels}
 

@@ -1,5 +1,5 @@
 -- One choice more: what it does to the vectors at a place.
-use Rattle.std.proofs.Common.{◌≡◌, ℕ, ◌+◌, ◌<◌, ◌≤◌, List, [], ◌∷◌, ◌++◌, length, take, drop, map, slice_get, Option, Some, None, refl, sym, ap, ap₂, subst, ◌∙◌, arith}
+use Rattle.std.proofs.Common.{◌≡◌, ℕ, ◌<◌, ◌≤◌, List, [], ◌∷◌, ◌++◌, length, take, drop, slice_get, Some, None, refl, sym, ap, ap₂, subst, ◌∙◌, arith}
 use Rattle.std.specs.List.{flat_map}
 use Rattle.std.proofs.lemmas.List.{map-append, take_at, drop_at}
 use Rattle.std.proofs.lemmas.List.Concat.{flat_map-append}
@@ -9,7 +9,7 @@ use Rattle.aq_ring.specs.Fractions.{Amplitude}
 use Rattle.aq_ring.specs.Amplitudes.{amplitude_zero, product}
 use Rattle.aq_ring.specs.Vectors.{IsZeroVector, scaled}
 use Rattle.aq_store.specs.declared.node.Node.{Node}
-use Rattle.aq_store.specs.Nodes.{IsLeaf, IsInner, EachPair, HasShape, tree, joined, labels_of, pairs_of, labels_at, pairs_at}
+use Rattle.aq_store.specs.Nodes.{HasShape, tree, joined, labels_of, pairs_of, labels_at, pairs_at}
 use Rattle.aq_store.proofs.TableLemmas.{slice_get-some}
 use Rattle.aq_cert.specs.Meaning.{amplitudes}
 

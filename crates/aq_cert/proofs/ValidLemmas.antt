@@ -1,15 +1,14 @@
 -- Each macro of a valid certificate holds every word, so the certificate shows inclusion.
-use Rattle.std.proofs.Common.{◌≡◌, ℕ, ◌+◌, ◌-◌, ◌<◌, ◌≤◌, ◌⊎◌, inl, inr, List, [], ◌∷◌, ◌++◌, length, drop, map, slice_get, get_or, Option, Some, None, Contains, refl, sym, ap, ap₂, subst, ◌∙◌, arith}
+use Rattle.std.proofs.Common.{◌≡◌, ℕ, ◌+◌, ◌-◌, ◌<◌, inl, inr, List, [], ◌∷◌, length, drop, slice_get, get_or, Option, Some, Contains, refl, sym, ap, subst, ◌∙◌, arith}
 use Rattle.std.specs.List.{slice_index}
 use Rattle.std.proofs.lemmas.Bool.{cases_lt}
 use Rattle.std.proofs.lemmas.List.{length-drop, get_or-drop}
-use Rattle.std.proofs.lemmas.Option.{slice_get_within, slice_get-get_or}
+use Rattle.std.proofs.lemmas.Option.{slice_get-get_or}
 use Rattle.aq_ring.specs.Fractions.{Amplitude}
 use Rattle.aq_ring.specs.Vectors.{IsZeroVector, scaled}
 use Rattle.aq_store.specs.declared.node.Node.{Node}
 use Rattle.aq_store.specs.declared.lsta.Lsta.{Lsta}
 use Rattle.aq_store.specs.Nodes.{HasShape, FitsStore}
-use Rattle.aq_store.specs.Levels.{levels_of}
 use Rattle.aq_store.specs.Words.{IsWord}
 use Rattle.aq_store.proofs.TableLemmas.{slice_get-some}
 use Rattle.aq_cert.specs.declared.cert.Rel.{Rel}
@@ -18,12 +17,12 @@ use Rattle.aq_cert.specs.declared.cert.Edge.{Edge}
 use Rattle.aq_cert.specs.declared.cert.End.{End}
 use Rattle.aq_cert.specs.declared.cert.Cert.{Cert}
 use Rattle.aq_cert.specs.Meaning.{amplitudes, IsMatched, Included}
-use Rattle.aq_cert.specs.Rows.{item_of, item_at, row_at, row_length}
-use Rattle.aq_cert.specs.Goals.{rest_of, goal_rest, levels_in, goal_levels, FitTogether}
-use Rattle.aq_cert.specs.Macros.{IsOfLevel, IsEdge, IsEnd}
-use Rattle.aq_cert.specs.Valid.{read_pairs, read_rel, read_macro, left_level, goal_level, IsShaped, BeginsAtRoots, HasPlaces, LeadsOn, HasEdges, HasEnds, IsValid}
-use Rattle.aq_cert.specs.Held.{IsHeldBy, IsHeld}
-use Rattle.aq_cert.proofs.MemberLemmas.{same_item, item-within, item-some, row-within, in-map, of-map, get-map}
+use Rattle.aq_cert.specs.Rows.{item_of, item_at, row_at}
+use Rattle.aq_cert.specs.Goals.{rest_of, goal_rest, levels_in, FitTogether}
+use Rattle.aq_cert.specs.Macros.{IsOfLevel, IsEnd}
+use Rattle.aq_cert.specs.Valid.{read_rel, read_macro, left_level, goal_level, IsValid}
+use Rattle.aq_cert.specs.Held.{IsHeld}
+use Rattle.aq_cert.proofs.MemberLemmas.{item-within, item-some, row-within, in-map, of-map, get-map}
 use Rattle.aq_cert.proofs.StepLemmas.{amplitudes-past, amplitudes-long, amplitudes-short, zero-none}
 use Rattle.aq_cert.proofs.HeldLemmas.{drop-next, goals_below, edge-holds, end-holds}
 use Rattle.aq_cert.proofs.PlaceLemmas.{place-shape, root-place}

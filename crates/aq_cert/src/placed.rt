@@ -130,7 +130,8 @@ fn place_level(
     level: usize,
     row: &[Macro],
 ) -> Result<Items<Macro>, AllocError>
-    ensures { IfOk result (λ list. AllZip (IsPlacedMacro (length goals.now) (row_at (lists_of left.now) level) (λ g. row_at (lists_in (slice_get goals.now g)) level)) row.now list) }
+    ensures { IfOk result (λ list. AllZip (IsPlacedMacro (length goals.now) (row_at (lists_of left.now) level) (λ g.
+        row_at (lists_in (slice_get goals.now g)) level)) row.now list) }
 {
     let left = Index::of_level(alloc, left, level)?;
     let goals = goal_indexes(alloc, goals, level)?;
@@ -153,7 +154,9 @@ fn goal_levels<L: Label>(
     Ok(all)
 }
 
-/// The same macros with places in the levels of the left and of the goals in place of nodes.
+/// The same macros with places in place of nodes, each row by the level of its number. The left and the goals fit the
+/// store. It gives up for want of memory, and also where a goal isn't there or a node isn't in its level, which no macro
+/// has that a search reached from the roots.
 pub fn with_places<L: Label>(
     store: &Store<L>,
     alloc: Global,

@@ -1,12 +1,12 @@
 -- What a macro holds, the macro under a choice holds.
-use Rattle.std.proofs.Common.{◌≡◌, ℕ, suc, ◌+◌, ◌*◌, ◌<◌, ◌≤◌, ◌⊎◌, inl, inr, List, [], ◌∷◌, ◌++◌, length, slice_get, Option, Some, None, Contains, refl, sym, ap, ap₂, subst, ◌∙◌, arith}
+use Rattle.std.proofs.Common.{◌≡◌, ℕ, suc, ◌+◌, ◌*◌, ◌<◌, inl, inr, List, [], ◌∷◌, ◌++◌, length, slice_get, Some, Contains, refl, sym, ap, ap₂, subst, ◌∙◌, arith}
 use Rattle.std.specs.List.{flat_map}
 use Rattle.std.proofs.lemmas.List.{length-append, length-map}
 use Rattle.aq_ring.specs.Fractions.{Amplitude}
 use Rattle.aq_ring.specs.Amplitudes.{product}
 use Rattle.aq_ring.specs.Vectors.{IsZeroVector, scaled}
 use Rattle.aq_store.specs.declared.node.Node.{Node}
-use Rattle.aq_store.specs.Nodes.{HasShape, pairs_at, tree}
+use Rattle.aq_store.specs.Nodes.{HasShape, tree}
 use Rattle.aq_store.proofs.ShapeLemmas.{same_length, same_element}
 use Rattle.aq_cert.specs.declared.cert.Rel.{Rel}
 use Rattle.aq_cert.specs.declared.cert.Macro.{Macro}
@@ -14,9 +14,9 @@ use Rattle.aq_store.specs.Words.{IsWord}
 use Rattle.aq_cert.specs.Meaning.{amplitudes}
 use Rattle.aq_cert.specs.Macros.{IsOfLevel, IsZeroOn, IsRelated}
 use Rattle.aq_cert.specs.Held.{IsHeldBy, IsHeld}
-use Rattle.aq_cert.proofs.StepLemmas.{zero-left, zero-right, append-split, scaled-append, AreChildren, children, amplitudes-step}
+use Rattle.aq_cert.proofs.StepLemmas.{zero-left, zero-right, append-split, scaled-append, children, amplitudes-step}
 use Rattle.aq_cert.proofs.HeldLemmas.{IsBelow}
-use Rattle.aq_include.specs.Steps.{IsChild, IsPairChild, IsOnly, IsBack}
+use Rattle.aq_include.specs.Steps.{IsChild, IsOnly, IsBack}
 
 half : (a b : ℕ) → a + a ≡ b + b → a ≡ b
 half a b e = omega arith

@@ -1,21 +1,20 @@
 -- The table in which the root was reached, with places for nodes, is a valid certificate.
-use Rattle.std.proofs.Common.{◌≡◌, ℕ, zero, suc, ◌+◌, ◌<◌, ◌≤◌, List, [], ◌∷◌, length, drop, slice_get, get_or, Option, Some, None, Contains, refl, sym, ap, ap₂, subst, ◌∙◌, arith, sum_by}
-use Rattle.std.proofs.lemmas.List.{drop_more, drop_all, length-map}
-use Rattle.std.proofs.lemmas.List.Sums.{sum_by-cons}
+use Rattle.std.proofs.Common.{◌≡◌, ℕ, zero, suc, ◌+◌, ◌<◌, List, [], ◌∷◌, length, drop, slice_get, get_or, Option, Some, None, Contains, refl, sym, ap, ap₂, subst, ◌∙◌, arith}
+use Rattle.std.proofs.lemmas.List.{drop_more, drop_all}
 use Rattle.std.proofs.lemmas.Option.{slice_get_within, get_or_from_slice_get}
 use Rattle.aq_ring.specs.Fractions.{Amplitude}
 use Rattle.aq_store.specs.declared.node.Node.{Node}
 use Rattle.aq_store.specs.declared.lsta.Lsta.{Lsta}
-use Rattle.aq_store.specs.Levels.{levels_of, levels_from}
+use Rattle.aq_store.specs.Levels.{levels_of}
 use Rattle.aq_cert.specs.declared.cert.Rel.{Rel}
 use Rattle.aq_cert.specs.declared.cert.Macro.{Macro}
 use Rattle.aq_cert.specs.declared.cert.Edge.{Edge}
 use Rattle.aq_cert.specs.declared.cert.End.{End}
 use Rattle.aq_cert.specs.declared.cert.Cert.{Cert}
-use Rattle.aq_cert.specs.Rows.{item_of, item_at, row_at, row_length}
-use Rattle.aq_cert.specs.Goals.{goal_rest, levels_in, goal_levels}
+use Rattle.aq_cert.specs.Rows.{item_of, item_at, row_at}
+use Rattle.aq_cert.specs.Goals.{goal_rest, levels_in}
 use Rattle.aq_cert.specs.Macros.{IsEdge, IsEnd}
-use Rattle.aq_cert.specs.Valid.{read_macro, left_level, goal_level, IsShaped, BeginsAtRoots, HasPlaces, LeadsOn, HasEdges, HasEnds, IsValid}
+use Rattle.aq_cert.specs.Valid.{read_macro, left_level, goal_level, IsShaped, BeginsAtRoots, HasPlaces, HasEdges, HasEnds, IsValid}
 use Rattle.aq_cert.specs.Placed.{IsAt, IsPairAt, IsPlacedRel, IsPlacedMacro, ArePlaced}
 use Rattle.aq_cert.proofs.MemberLemmas.{same_item, item-within, item-some, row-within}
 use Rattle.aq_cert.proofs.PlaceLemmas.{first-level}

@@ -1,5 +1,5 @@
 -- What a list of children has.
-use Rattle.std.proofs.Common.{◌≡◌, ℕ, zero, suc, ◌+◌, ◌*◌, ◌<◌, ◌≤◌, ◌⊎◌, inl, inr, List, [], ◌∷◌, ◌++◌, length, slice_get, get_or, Option, Some, None, Contains, refl, sym, ap, subst, ◌∙◌, arith}
+use Rattle.std.proofs.Common.{◌≡◌, ℕ, ◌*◌, ◌≤◌, ◌⊎◌, inl, inr, List, [], ◌∷◌, length, slice_get, Option, Some, None, Contains, refl, sym, ap, subst, arith}
 use Rattle.std.specs.List.{flat_map}
 use Rattle.std.proofs.lemmas.List.{length-append}
 use Rattle.std.proofs.lemmas.List.Elements.{Contains-append_left, Contains-append_right, Contains-append_cases}
@@ -7,7 +7,7 @@ use Rattle.aq_cert.proofs.MemberLemmas.{in-head, in-tail, of-two, of-none, of-co
 use Rattle.aq_store.specs.declared.node.Node.{Node}
 use Rattle.aq_store.specs.Nodes.{pairs_at}
 use Rattle.aq_include.specs.Members.{HasSame}
-use Rattle.aq_include.specs.Steps.{both, across, children_of, pair_children_of, IsChild, IsPairChild}
+use Rattle.aq_include.specs.Steps.{both, across, children_of, pair_children_of}
 use Rattle.aq_include.specs.Candidates.{AreChildren, ArePairChildren}
 
 module _ {A B : Type 0} (f : A → List B) where

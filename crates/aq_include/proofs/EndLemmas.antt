@@ -1,32 +1,29 @@
 -- The labels of pairs are proportional exactly where the pairs are related.
-use Rattle.std.proofs.Common.{◌≡◌, ℕ, zero, suc, ◌+◌, ◌*◌, ◌<◌, ◌≤◌, ◌⊎◌, inl, inr, List, [], ◌∷◌, ◌++◌, length, map, take, slice_get, get_or, Option, Some, None, Contains, refl, sym, ap, ap₂, subst, ◌∙◌, arith, sum_by}
+use Rattle.std.proofs.Common.{◌≡◌, ℕ, ◌+◌, ◌<◌, ◌≤◌, ◌⊎◌, inl, inr, List, [], ◌∷◌, ◌++◌, length, take, slice_get, get_or, Some, Contains, refl, sym, ap, ap₂, subst, ◌∙◌, arith, sum_by}
 use Rattle.std.specs.List.{flat_map}
-use Rattle.std.proofs.lemmas.List.{append-nil, length-append, length-map, take_more}
+use Rattle.std.proofs.lemmas.List.{append-nil, take_more}
 use Rattle.std.proofs.lemmas.List.Elements.{Contains-get_or, Contains-push_cases}
 use Rattle.std.proofs.lemmas.List.Concat.{flat_map-append}
 use Rattle.std.proofs.lemmas.List.Sums.{sum_by_push, sum_by-take-le}
 use Rattle.std.proofs.lemmas.Bool.{cases_lt}
 use Rattle.aq_ring.specs.Fractions.{Amplitude}
-use Rattle.aq_ring.specs.Amplitudes.{product, amplitude_zero, FitsAmplitudeProduct}
-use Rattle.aq_ring.specs.Vectors.{IsZeroVector, scaled, Proportional}
-use Rattle.aq_ring.proofs.ProportionalLaws.{proportional-equivalence}
+use Rattle.aq_ring.specs.Amplitudes.{amplitude_zero, FitsAmplitudeProduct}
+use Rattle.aq_ring.specs.Vectors.{IsZeroVector, Proportional}
 use Rattle.aq_label.specs.Ratios.{lefts, rights, at, IsRatio, IsSame, IsDifferent, IsWideBy, IsProportionalAndFits}
 use Rattle.aq_label.specs.declared.Ratio.{Ratio}
 use Rattle.aq_label.specs.declared.Ratio.TheVariants as ratio
-use Rattle.aq_label.proofs.PartLaws.{one_zero}
 use Rattle.aq_store.specs.declared.node.Node.{Node}
-use Rattle.aq_store.specs.Nodes.{tree, labels_at, IsLeaf, HasShape, labels_of}
+use Rattle.aq_store.specs.Nodes.{tree, labels_at}
 use Rattle.aq_cert.specs.declared.cert.Rel.{Rel}
 use Rattle.aq_cert.specs.declared.cert.Macro.{Macro}
 use Rattle.aq_store.specs.Words.{IsWord}
 use Rattle.aq_cert.specs.Meaning.{amplitudes}
 use Rattle.aq_cert.specs.Macros.{IsOfLevel, IsRelated, IsZeroOn, AreAlike, left_labels, right_labels}
-use Rattle.aq_cert.specs.Held.{IsHeldBy, IsHeld}
+use Rattle.aq_cert.specs.Held.{IsHeld}
 use Rattle.aq_cert.proofs.AlikeLemmas.{AreLeaves, labels-length, of-related}
 use Rattle.aq_include.specs.Ends.{AreLabels, IsWideIn, Relates}
 use Rattle.aq_include.specs.Least.{IsWideAt}
 use Rattle.aq_include.proofs.ChildLemmas.{of-flat}
-use Rattle.aq_cert.proofs.MemberLemmas.{of-cons, of-none, in-head, in-tail}
 
 module _ {L : Type 0} (parts : L → List Amplitude) (table : List (Node L)) where
   pub label-amplitudes : (x : ℕ) (l : L) → labels_at table x ≡ l ∷ [] → amplitudes parts table [] x ≡ parts l

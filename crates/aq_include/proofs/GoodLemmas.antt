@@ -1,5 +1,5 @@
 -- A good macro holds every word, so a table of good macros shows inclusion.
-use Rattle.std.proofs.Common.{◌≡◌, ℕ, ◌+◌, ◌<◌, ◌≤◌, ◌⊎◌, inl, inr, List, [], ◌∷◌, ◌++◌, length, slice_get, Option, Some, None, Contains, refl, sym, ap, subst, ◌∙◌, arith}
+use Rattle.std.proofs.Common.{◌≡◌, ℕ, ◌+◌, inl, inr, List, [], ◌∷◌, Some, Contains, sym, subst, arith}
 use Rattle.std.proofs.lemmas.Bool.{cases_lt}
 use Rattle.aq_ring.specs.Fractions.{Amplitude}
 use Rattle.aq_ring.specs.Vectors.{IsZeroVector}
@@ -10,8 +10,7 @@ use Rattle.aq_store.proofs.TableLemmas.{slice_get-some}
 use Rattle.aq_cert.specs.declared.cert.Macro.{Macro}
 use Rattle.aq_cert.specs.declared.cert.Edge.{Edge}
 use Rattle.aq_cert.specs.declared.cert.End.{End}
-use Rattle.aq_cert.specs.declared.cert.Cert.{Cert}
-use Rattle.aq_cert.specs.Meaning.{amplitudes, IsMatched, Included}
+use Rattle.aq_cert.specs.Meaning.{amplitudes, IsMatched}
 use Rattle.aq_cert.specs.Rows.{item_at}
 use Rattle.aq_cert.specs.Goals.{rest_of, goal_rest}
 use Rattle.aq_cert.specs.Held.{IsHeld}

@@ -1,12 +1,11 @@
 -- From the roots to the answer.
-use Rattle.std.proofs.Common.{◌≡◌, ℕ, zero, suc, ◌+◌, ◌*◌, ◌^◌, ◌<◌, ◌≤◌, ◌⊎◌, inl, inr, List, [], ◌∷◌, ◌++◌, length, drop, take, slice_get, get_or, Option, Some, None, Contains, refl, sym, ap, ap₂, subst, ◌∙◌, arith, sum_by}
-use Rattle.std.proofs.lemmas.List.{take_more, length-append}
+use Rattle.std.proofs.Common.{◌≡◌, ℕ, zero, suc, ◌+◌, ◌*◌, ◌^◌, ◌<◌, ◌≤◌, inl, inr, List, [], ◌∷◌, ◌++◌, length, drop, take, slice_get, get_or, Option, Some, None, Contains, refl, sym, ap, ap₂, subst, ◌∙◌, arith, sum_by}
+use Rattle.std.proofs.lemmas.List.{take_more}
 use Rattle.std.proofs.lemmas.List.Sums.{sum_by_push}
 use Rattle.std.proofs.lemmas.Option.{slice_get_within, slice_get-get_or}
 use Rattle.aq_ring.specs.Fractions.{Amplitude}
 use Rattle.aq_store.specs.declared.node.Node.{Node}
 use Rattle.aq_store.specs.declared.lsta.Lsta.{Lsta}
-use Rattle.aq_store.specs.Count.{Count}
 use Rattle.aq_store.specs.Nodes.{HasShape, FitsStore}
 use Rattle.aq_store.proofs.TableLemmas.{slice_get-push, slice_get-some}
 use Rattle.aq_cert.specs.declared.cert.Rel.{Rel}
@@ -16,7 +15,6 @@ use Rattle.aq_cert.specs.Meaning.{amplitudes, Included}
 use Rattle.aq_cert.specs.Rows.{item_of, item_at}
 use Rattle.aq_cert.specs.Goals.{rest_of, goal_rest}
 use Rattle.aq_cert.specs.Macros.{IsOfLevel}
-use Rattle.aq_include.specs.Good.{IsRoot}
 use Rattle.aq_cert.specs.Valid.{IsValid}
 use Rattle.aq_cert.specs.Placed.{ArePlaced}
 use Rattle.aq_include.proofs.GoodLemmas.{good-holds, root-matched}
@@ -24,17 +22,16 @@ use Rattle.aq_include.proofs.CertLemmas.{valid-written}
 use Rattle.aq_include.specs.declared.table.Table.{Table}
 use Rattle.aq_store.specs.declared.store.Stop.{Stop}
 use Rattle.aq_store.specs.declared.store.Stop.TheVariants as stop
-use Rattle.aq_include.specs.Costs.{Takes, IsCause, rel_weight, weight, budget}
+use Rattle.aq_include.specs.Costs.{rel_weight, budget}
 use Rattle.aq_store.specs.Words.{words}
-use Rattle.aq_include.specs.Least.{IsWideAt, IsWholeRoot}
+use Rattle.aq_include.specs.Least.{IsWholeRoot}
 use Rattle.aq_cert.specs.Rows.{row_of, row_length}
 use Rattle.aq_include.specs.Ends.{StopsWide}
-use Rattle.aq_include.specs.Search.{IsEven, IsTable, IsReached}
-use Rattle.aq_include.specs.Answers.{IsFresh, IsRootRel, goal_words, search_budget, IsWideInclusion, StopsFor}
+use Rattle.aq_include.specs.Search.{IsTable, IsReached}
+use Rattle.aq_include.specs.Answers.{IsFresh, IsRootRel, goal_words, search_budget, StopsFor}
 use Rattle.aq_cert.proofs.MemberLemmas.{of-cons, of-none, in-head}
 use Rattle.aq_include.proofs.BudgetLemmas.{budget-bound}
 use Rattle.aq_include.proofs.StepLemmas.{some-word}
-use Rattle.aq_include.proofs.TurnLemmas.{takes-within, cause-within}
 
 of-one : {X : Type 0} (x y : X) → Contains (x ∷ []) y → y ≡ x
 of-one x y h = elim (of-cons x [] y h) [ inl e ↦ e | inr k ↦ absurd (of-none y k) ]

@@ -1,22 +1,21 @@
 -- The first word that a macro doesn't hold comes from that of the macro under its first choice.
-use Rattle.std.proofs.Common.{◌≡◌, ℕ, suc, ◌+◌, ◌*◌, ◌<◌, ◌≤◌, ◌⊎◌, inl, inr, List, [], ◌∷◌, ◌++◌, length, slice_get, Option, Some, None, Contains, refl, sym, ap, ap₂, subst, ◌∙◌, arith}
+use Rattle.std.proofs.Common.{◌≡◌, ℕ, ◌<◌, ◌⊎◌, inl, inr, List, [], ◌∷◌, length, slice_get, Some, Contains, sym, ap, subst, ◌∙◌}
 use Rattle.std.proofs.lemmas.List.Elements.{Contains-append_left, Contains-append_right}
 use Rattle.aq_ring.specs.Fractions.{Amplitude}
 use Rattle.aq_ring.specs.Vectors.{IsZeroVector, scaled}
 use Rattle.aq_store.specs.declared.node.Node.{Node}
 use Rattle.aq_store.specs.declared.lsta.Lsta.{Lsta}
-use Rattle.aq_store.specs.Nodes.{HasShape, pairs_at}
-use Rattle.aq_cert.specs.declared.cert.Rel.{Rel}
+use Rattle.aq_store.specs.Nodes.{pairs_at}
 use Rattle.aq_cert.specs.declared.cert.Macro.{Macro}
 use Rattle.aq_store.specs.Words.{IsWord}
-use Rattle.aq_cert.specs.Meaning.{IsBefore, amplitudes, IsMatched, IsEscape, IsLeastEscape}
+use Rattle.aq_cert.specs.Meaning.{IsBefore, amplitudes, IsMatched, IsLeastEscape}
 use Rattle.aq_cert.specs.Goals.{goal_rest, rest_of}
-use Rattle.aq_cert.specs.Macros.{IsOfLevel, IsEdge, IsZeroOn, IsRelated}
+use Rattle.aq_cert.specs.Macros.{IsOfLevel, IsEdge}
 use Rattle.aq_cert.specs.Held.{IsHeldBy, IsHeld}
 use Rattle.aq_cert.proofs.StepLemmas.{amplitudes-step}
 use Rattle.aq_cert.proofs.HeldLemmas.{IsBelow, edge-holds}
 use Rattle.aq_include.proofs.GoodLemmas.{root-matched}
-use Rattle.aq_include.specs.Steps.{IsChild, IsPairChild, IsOnly, ComesFrom, IsBack}
+use Rattle.aq_include.specs.Steps.{IsBack}
 use Rattle.aq_include.specs.Least.{IsLeast, IsWideAt, IsWholeRoot}
 use Rattle.aq_include.proofs.BackLemmas.{held-back}
 

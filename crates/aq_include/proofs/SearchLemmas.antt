@@ -1,28 +1,25 @@
 -- The table of good macros grows.
-use Rattle.std.proofs.Common.{◌≡◌, ◌≢◌, ℕ, zero, suc, ◌+◌, ◌*◌, ◌<◌, ◌≤◌, ◌⊎◌, inl, inr, List, [], ◌∷◌, ◌++◌, length, drop, slice_get, get_or, Option, Some, None, Contains, refl, sym, ap, ap₂, subst, ◌∙◌, arith, sum_by}
-use Rattle.std.specs.Prelude.{slice_index}
+use Rattle.std.proofs.Common.{◌≡◌, ◌≢◌, ℕ, ◌+◌, ◌<◌, ◌≤◌, ◌⊎◌, inl, inr, List, [], ◌∷◌, ◌++◌, length, drop, slice_get, get_or, Some, sym, ap, subst, ◌∙◌, arith}
 use Rattle.std.proofs.lemmas.List.{drop_more, drop_all}
 use Rattle.std.proofs.lemmas.Bool.{cases_lt}
-use Rattle.std.proofs.lemmas.Option.{slice_get_within}
 use Rattle.aq_ring.specs.Fractions.{Amplitude}
 use Rattle.aq_store.specs.declared.node.Node.{Node}
 use Rattle.aq_store.specs.declared.lsta.Lsta.{Lsta}
-use Rattle.aq_store.specs.Count.{Count}
 use Rattle.aq_store.proofs.TableLemmas.{slice_get-push}
 use Rattle.aq_cert.specs.declared.cert.Macro.{Macro}
 use Rattle.aq_cert.specs.declared.cert.Edge.{Edge}
 use Rattle.aq_cert.specs.declared.cert.End.{End}
-use Rattle.aq_cert.specs.Rows.{item_of, item_at}
+use Rattle.aq_cert.specs.Rows.{item_at}
 use Rattle.aq_cert.specs.Goals.{goal_rest}
 use Rattle.aq_cert.specs.Macros.{IsOfLevel, IsEdge}
 use Rattle.aq_include.specs.Good.{IsGoodEnd, IsGood}
 use Rattle.aq_cert.specs.Held.{IsHeld}
-use Rattle.aq_cert.proofs.HeldLemmas.{IsBelow, goals_below, edge-holds}
+use Rattle.aq_cert.proofs.HeldLemmas.{goals_below, edge-holds}
 use Rattle.aq_include.proofs.GoodLemmas.{good-holds}
 use Rattle.aq_include.specs.declared.table.Table.{Table}
 use Rattle.aq_include.specs.Tables.{RowsExtend, IsPushed}
 use Rattle.aq_cert.specs.Rows.{row_length, row_of}
-use Rattle.aq_include.specs.Search.{TableExtends, IsEven, IsGoodIn, IsTable, IsReached, Leads, IsFollowed}
+use Rattle.aq_include.specs.Search.{TableExtends, IsGoodIn, IsTable, IsReached, Leads, IsFollowed}
 use Rattle.aq_include.proofs.CandidateLemmas.{get-front, get-last}
 
 module _ {X : Type 0} where

@@ -1,8 +1,6 @@
 -- What the macros of a table take in a certificate.
 use Rattle.std.proofs.Common.{◌≡◌, ◌≢◌, ℕ, zero, suc, ◌+◌, ◌*◌, ◌<◌, ◌≤◌, List, [], ◌∷◌, ◌++◌, length, slice_get, Option, Some, None, refl, sym, ap, ap₂, subst, ◌∙◌, arith, sum_by}
-use Rattle.std.proofs.lemmas.List.{length-append}
 use Rattle.std.proofs.lemmas.List.Sums.{sum_by-cons, sum_by_push}
-use Rattle.std.proofs.lemmas.Option.{slice_get_within}
 use Rattle.aq_store.specs.Count.{Count}
 use Rattle.aq_store.specs.declared.node.Node.{Node}
 use Rattle.aq_store.specs.declared.lsta.Lsta.{Lsta}
@@ -10,7 +8,7 @@ use Rattle.aq_store.proofs.TableLemmas.{slice_get-some}
 use Rattle.aq_cert.specs.declared.cert.Rel.{Rel}
 use Rattle.aq_cert.specs.declared.cert.Macro.{Macro}
 use Rattle.aq_cert.specs.declared.cert.Cert.{Cert}
-use Rattle.aq_cert.specs.Rows.{item_of, item_at, list_of, row_at, row_of, row_length}
+use Rattle.aq_cert.specs.Rows.{item_of, item_at, row_at, row_of, row_length}
 use Rattle.aq_cert.specs.Valid.{left_level, goal_level}
 use Rattle.aq_cert.specs.Placed.{IsAt, IsPairAt, IsPlacedRel, IsPlacedMacro, ArePlaced}
 use Rattle.aq_cert.proofs.ReadLemmas.{zip-length, zip-sum}

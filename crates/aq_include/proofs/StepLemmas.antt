@@ -1,7 +1,7 @@
 -- From candidates to the macro under a choice.
-use Rattle.std.proofs.Common.{◌≡◌, ℕ, zero, suc, ◌+◌, ◌*◌, ◌<◌, ◌≤◌, ◌⊎◌, inl, inr, List, [], ◌∷◌, ◌++◌, length, map, drop, take, slice_get, get_or, Option, Some, None, Contains, refl, sym, ap, ap₂, subst, ◌∙◌, arith, sum_by}
+use Rattle.std.proofs.Common.{◌≡◌, ℕ, zero, suc, ◌+◌, ◌*◌, ◌<◌, ◌≤◌, ◌⊎◌, inl, inr, List, [], ◌∷◌, ◌++◌, length, map, drop, take, slice_get, get_or, Option, Some, None, Contains, refl, sym, ap, subst, ◌∙◌, arith, sum_by}
 use Rattle.std.specs.Prelude.{slice_index}
-use Rattle.std.proofs.Math.Nat.{mul-le-mul_left, mul-le-mul_right}
+use Rattle.std.proofs.Math.Nat.{mul-le-mul_left}
 use Rattle.std.proofs.lemmas.List.{drop_more, drop_all, take_more, length-map, length-take-le}
 use Rattle.std.proofs.lemmas.Bool.{cases_lt}
 use Rattle.std.proofs.lemmas.List.Sums.{sum_by-cons, sum_by-append, sum_by_push, sum_by-le-sum_by, sum_by-take-le}
@@ -9,22 +9,21 @@ use Rattle.std.proofs.lemmas.Option.{slice_get-get_or}
 use Rattle.aq_store.specs.declared.node.Node.{Node}
 use Rattle.aq_store.specs.declared.lsta.Lsta.{Lsta}
 use Rattle.aq_store.specs.Count.{Count, after}
-use Rattle.aq_store.specs.Nodes.{HasShape, EachPair, IsInner, pairs_at}
+use Rattle.aq_store.specs.Nodes.{HasShape, pairs_at}
 use Rattle.aq_store.proofs.TableLemmas.{slice_get-push, slice_get-some}
 use Rattle.aq_cert.specs.declared.cert.Rel.{Rel}
 use Rattle.aq_cert.specs.declared.cert.Macro.{Macro}
 use Rattle.aq_cert.specs.Goals.{rest_of, goal_rest}
-use Rattle.aq_cert.specs.Macros.{IsOfLevel, IsStepOf, IsEdge}
+use Rattle.aq_cert.specs.Macros.{IsOfLevel, IsStepOf}
 use Rattle.aq_cert.proofs.StepLemmas.{pairs-length}
-use Rattle.aq_cert.proofs.HeldLemmas.{IsBelow, goals_below}
 use Rattle.aq_include.specs.declared.step.Candidate.{Candidate}
 use Rattle.aq_include.specs.declared.step.Stepped.{Stepped}
 use Rattle.aq_store.specs.declared.store.Stop.{Stop}
 use Rattle.aq_store.specs.declared.store.Stop.TheVariants as stop
-use Rattle.aq_include.specs.Steps.{IsChild, IsPairChild, IsOnly, ComesFrom, IsBack}
-use Rattle.aq_include.specs.Costs.{Takes, IsCause, rel_weight, weight, size}
+use Rattle.aq_include.specs.Steps.{IsOnly}
+use Rattle.aq_include.specs.Costs.{Takes, IsCause, rel_weight, size}
 use Rattle.aq_store.specs.Words.{words}
-use Rattle.aq_include.specs.Candidates.{IsWithin, Thins, AreChildren, ArePairChildren, IsCandidate, Offers, AreOfRel, AreOfRels, IsStepped}
+use Rattle.aq_include.specs.Candidates.{Thins, AreChildren, IsCandidate, AreOfRel, AreOfRels, IsStepped}
 use Rattle.aq_include.specs.Levels.{HasLevel}
 use Rattle.aq_include.proofs.BudgetLemmas.{words-cons}
 use Rattle.aq_include.proofs.CandidateLemmas.{get-front, get-last, offers-front}

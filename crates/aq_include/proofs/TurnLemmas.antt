@@ -1,14 +1,14 @@
 -- One turn of the search: the macro under a choice, and what the turns take.
-use Rattle.std.proofs.Common.{◌≡◌, ℕ, zero, suc, ◌+◌, ◌*◌, ◌<◌, ◌≤◌, ◌⊎◌, inl, inr, List, [], ◌∷◌, ◌++◌, length, drop, slice_get, get_or, Option, Some, None, Contains, refl, sym, ap, ap₂, subst, ◌∙◌, arith, sum_by}
+use Rattle.std.proofs.Common.{◌≡◌, ℕ, suc, ◌+◌, ◌*◌, ◌<◌, ◌≤◌, ◌⊎◌, inl, inr, List, [], ◌∷◌, length, drop, slice_get, get_or, Some, None, refl, sym, ap, subst, ◌∙◌, arith, sum_by}
 use Rattle.std.specs.Prelude.{slice_index}
-use Rattle.std.proofs.Math.Nat.{mul-le-mul_left, mul-le-mul_right}
+use Rattle.std.proofs.Math.Nat.{mul-le-mul_right}
 use Rattle.std.proofs.lemmas.List.{drop_more, drop_all}
 use Rattle.std.proofs.lemmas.List.Sums.{sum_by-cons}
 use Rattle.aq_ring.specs.Fractions.{Amplitude}
 use Rattle.aq_store.specs.declared.node.Node.{Node}
 use Rattle.aq_store.specs.declared.lsta.Lsta.{Lsta}
 use Rattle.aq_store.specs.Count.{Count}
-use Rattle.aq_store.specs.Nodes.{HasShape, EachPair, IsInner, pairs_at, pairs_of}
+use Rattle.aq_store.specs.Nodes.{HasShape, pairs_at, pairs_of}
 use Rattle.aq_store.proofs.TableLemmas.{slice_get-some}
 use Rattle.aq_cert.specs.declared.cert.Rel.{Rel}
 use Rattle.aq_cert.specs.declared.cert.Macro.{Macro}
@@ -21,14 +21,13 @@ use Rattle.aq_store.specs.declared.store.Stop.{Stop}
 use Rattle.aq_store.specs.declared.store.Stop.TheVariants as stop
 use Rattle.aq_include.specs.declared.step.Stepped.{Stepped}
 use Rattle.aq_include.specs.declared.table.Table.{Table}
-use Rattle.aq_include.specs.Steps.{IsChild, IsPairChild, IsOnly, ComesFrom, IsBack}
+use Rattle.aq_include.specs.Steps.{IsBack}
 use Rattle.aq_include.specs.Candidates.{IsStepped}
 use Rattle.aq_include.specs.Costs.{Takes, IsCause, rel_weight, weight, budget, turn_budget}
 use Rattle.aq_store.specs.Words.{words}
 use Rattle.aq_include.specs.Least.{IsLeast}
 use Rattle.aq_include.specs.Search.{IsTable, Leads}
 use Rattle.aq_include.proofs.BudgetLemmas.{budget-mono}
-use Rattle.aq_include.proofs.StepLemmas.{first-is, takes-then, cause-then}
 use Rattle.aq_include.proofs.SearchLemmas.{leads-holds}
 use Rattle.aq_include.proofs.LeastLemmas.{least-step, wide-step}
 use Rattle.aq_include.proofs.EndLemmas.{no-end}

@@ -1,14 +1,14 @@
 -- The relations under a choice, before repeats are left out.
-use Rattle.std.specs.Prelude.{◌≡◌, ◌⊎◌, ℕ, ◌+◌, ◌*◌, ◌<◌, ◌≤◌, List, [], ◌∷◌, length, sum_by, slice_get, Some, Contains}
+use Rattle.std.specs.Prelude.{◌≡◌, ℕ, ◌*◌, ◌<◌, ◌≤◌, List, ◌∷◌, length, sum_by, slice_get, Some, Contains}
 use Rattle.aq_store.specs.declared.node.Node.{Node}
 use Rattle.aq_store.specs.Nodes.{pairs_at}
 use Rattle.aq_cert.specs.declared.cert.Rel.{Rel}
 use Rattle.aq_cert.specs.declared.cert.Macro.{Macro}
-use Rattle.aq_cert.specs.Macros.{IsEdge, IsStepOf}
+use Rattle.aq_cert.specs.Macros.{IsEdge}
 use Rattle.aq_include.specs.declared.step.Candidate.{Candidate}
 use Rattle.aq_include.specs.declared.step.Stepped.{Stepped}
 use Rattle.aq_include.specs.Steps.{IsChild, IsPairChild, IsOnly, IsBack}
-use Rattle.aq_include.specs.Costs.{rel_weight, weight, size}
+use Rattle.aq_include.specs.Costs.{weight}
 
 -- the relation asks for no more than the other
 pub record IsWithin (r s : Rel) : Type 0 where

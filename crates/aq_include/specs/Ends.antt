@@ -1,5 +1,5 @@
 -- The last level.
-use Rattle.std.specs.Prelude.{◌≡◌, ℕ, List, [], ◌∷◌, flat_map, Contains, slice_get, Option, None, Some}
+use Rattle.std.specs.Prelude.{◌≡◌, ℕ, List, [], flat_map, Contains, slice_get, Option, None, Some}
 use Rattle.aq_ring.specs.Fractions.{Amplitude}
 use Rattle.aq_ring.specs.Amplitudes.{FitsAmplitudeProduct}
 use Rattle.aq_store.specs.declared.node.Node.{Node}

@@ -1,5 +1,5 @@
 -- A macro over nodes is good where it holds every word, as its edges or its end show.
-use Rattle.std.specs.Prelude.{◌≡◌, ℕ, ◌+◌, List, [], ◌∷◌, length, drop, slice_get, Some, Contains}
+use Rattle.std.specs.Prelude.{◌≡◌, ℕ, ◌+◌, List, [], ◌∷◌, length, slice_get, Some, Contains}
 use Rattle.aq_ring.specs.Fractions.{Amplitude}
 use Rattle.aq_store.specs.declared.node.Node.{Node}
 use Rattle.aq_store.specs.declared.lsta.Lsta.{Lsta}
@@ -7,7 +7,6 @@ use Rattle.aq_cert.specs.declared.cert.Rel.{Rel}
 use Rattle.aq_cert.specs.declared.cert.Macro.{Macro}
 use Rattle.aq_cert.specs.declared.cert.Edge.{Edge}
 use Rattle.aq_cert.specs.declared.cert.End.{End}
-use Rattle.aq_cert.specs.declared.cert.Cert.{Cert}
 use Rattle.aq_cert.specs.Rows.{item_at}
 use Rattle.aq_cert.specs.Goals.{goal_rest}
 use Rattle.aq_cert.specs.Macros.{IsOfLevel, IsEdge, IsEnd}

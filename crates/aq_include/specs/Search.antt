@@ -1,5 +1,5 @@
 -- The table of good macros, and what the search finds.
-use Rattle.std.specs.Prelude.{◌≡◌, ◌⊎◌, ℕ, ◌+◌, ◌*◌, ◌<◌, ◌≤◌, ◌^◌, List, [], ◌∷◌, length, drop, sum_by, slice_get, Some, IfOk}
+use Rattle.std.specs.Prelude.{◌≡◌, ◌⊎◌, ℕ, ◌+◌, ◌*◌, ◌<◌, ◌≤◌, List, length, drop, sum_by, slice_get, Some}
 use Rattle.aq_ring.specs.Fractions.{Amplitude}
 use Rattle.aq_store.specs.declared.node.Node.{Node}
 use Rattle.aq_store.specs.Count.{Count}
@@ -7,12 +7,10 @@ use Rattle.aq_store.specs.declared.lsta.Lsta.{Lsta}
 use Rattle.aq_cert.specs.declared.cert.Macro.{Macro}
 use Rattle.aq_cert.specs.declared.cert.Edge.{Edge}
 use Rattle.aq_cert.specs.declared.cert.End.{End}
-use Rattle.aq_cert.specs.declared.cert.Cert.{Cert}
 use Rattle.aq_cert.specs.Rows.{item_at}
 use Rattle.aq_cert.specs.Goals.{goal_rest}
 use Rattle.aq_cert.specs.Macros.{IsEdge}
 use Rattle.aq_include.specs.Good.{IsGood}
-use Rattle.aq_cert.specs.Meaning.{IsLeastEscape}
 use Rattle.aq_include.specs.declared.table.Table.{Table}
 use Rattle.aq_include.specs.declared.search.Found.{Found}
 use Rattle.aq_include.specs.declared.search.Found.TheVariants as found

@@ -4,7 +4,6 @@ use Rattle.aq_store.specs.declared.node.Node.{Node}
 use Rattle.aq_store.specs.Nodes.{pairs_at}
 use Rattle.aq_cert.specs.declared.cert.Rel.{Rel}
 use Rattle.aq_cert.specs.declared.cert.Macro.{Macro}
-use Rattle.aq_cert.specs.Macros.{IsEdge, IsOfLevel}
 
 -- both places of a pair
 abbrev pub both : Option (ℕ × ℕ) → List ℕ

@@ -1,5 +1,5 @@
 -- Rows of items that grow at their ends.
-use Rattle.std.specs.Prelude.{◌≡◌, ◌≢◌, ◌⊎◌, ℕ, ◌+◌, List, length, slice_get, Option, None, Some}
+use Rattle.std.specs.Prelude.{◌≡◌, ◌≢◌, ◌⊎◌, ℕ, ◌+◌, List, length, slice_get, Some}
 use Rattle.aq_cert.specs.Rows.{item_at, row_length}
 
 -- each item of the old rows is at its place in the new ones

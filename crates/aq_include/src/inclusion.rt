@@ -27,7 +27,8 @@ pub enum Answer {
 fn root_macro(alloc: Global, left: &Lsta, goals: &[Lsta]) -> Result<Macro, AllocError>
     requires { length goals.now < 2 ^ 32 }
     ensures domain { IfOk result (λ m. m.domain ≡ left.now.root ∷ []) }
-    ensures rels { IfOk result (λ m. (k : ℕ) (rel : Rel) → slice_get m.rels k ≡ Some rel → IsRootRel left.now.root goals.now k rel) }
+    ensures rels { IfOk result (λ m. (k : ℕ) (rel : Rel) → slice_get m.rels k ≡ Some rel → IsRootRel left.now.root
+        goals.now k rel) }
     ensures count { IfOk result (λ m. length m.rels ≡ length goals.now) }
     ensures size { IfOk result (λ m. size m ≡ 1 + length goals.now) }
     ensures weight { IfOk result (λ m. weight (goal_rest goals.now 0) m ≡ 1 + goal_words goals.now) }
@@ -46,7 +47,13 @@ fn root_macro(alloc: Global, left: &Lsta, goals: &[Lsta]) -> Result<Macro, Alloc
     Ok(Macro { domain, rels })
 }
 
-/// Looks for a match of each vector of the left, in the order of its words.
+/// Whether each nonzero vector of the left is proportional to a vector of a goal. All fit the store and have as many
+/// levels. Included comes with a valid certificate, and Escapes has the least word whose vector isn't zero and has no
+/// match. A step is counted for each member of a domain and each pair that a choice leads on, and for each pair whose
+/// labels are compared.
+///
+/// `Spent` comes only where `search_budget` is more steps than are left, and `WideParts` only with an entry of a left
+/// vector and one of a goal's whose product doesn't fit. `Wide` never comes. `Memory` may come at any time.
 pub fn include<L: Label>(
     store: &Store<L>,
     alloc: Global,

@@ -1,4 +1,5 @@
-//! The search that decides whether each vector of an automaton is among those of others.
+//! The search that decides whether each nonzero vector of an automaton has a proportional one in others.
+//! docs/AUTOMATA.md tells how it goes.
 #![tactic(auto)]
 
 mod end;
@@ -10,6 +11,3 @@ mod step;
 mod table;
 
 pub use inclusion::{Answer, include};
-
-#[cfg(test)]
-mod tests;

@@ -1,5 +1,6 @@
 //! Lists of places in order, each once.
-ghost use Rattle.std.specs.Prelude.{◌≡◌, ◌≤◌, ◌<◌, ◌↔◌, ◌+◌, ◌*◌, ◌++◌, ℕ, List, length, Contains, IfOk, IfSome, OnOk, slice_get, Some, IsTrue};
+ghost use Rattle.std.specs.Prelude.{◌≡◌, ◌≤◌, ◌<◌, ◌↔◌, ◌+◌, ◌*◌, ◌++◌, ℕ, List, length, Contains, IfOk, IfSome};
+ghost use Rattle.std.specs.Prelude.{OnOk, slice_get, Some, IsTrue};
 ghost use Rattle.aq_store.specs.Nodes.{pairs_at};
 ghost use Rattle.aq_include.specs.Steps.{children_of, pair_children_of};
 ghost use Rattle.aq_include.specs.Members.{HasSame};
@@ -87,7 +88,8 @@ pub(crate) fn pair_children<L: Label>(
     choice: u32,
     goal_choice: u32,
 ) -> Result<Vec<(u32, u32)>, AllocError>
-    requires { (p : ℕ × ℕ) → Contains pairs.now p → (choice < length (pairs_at store.now p.0)) × (goal_choice < length (pairs_at store.now p.1)) }
+    requires { (p : ℕ × ℕ) → Contains pairs.now p → (choice < length (pairs_at store.now p.0)) × (goal_choice < length
+        (pairs_at store.now p.1)) }
     ensures { IfOk result (λ list. list.items ≡ pair_children_of store.now choice goal_choice pairs.now) }
 {
     let mut list = Vec::new(alloc);

@@ -1,5 +1,6 @@
 //! The macro under a choice.
-ghost use Rattle.std.specs.Prelude.{◌≡◌, ◌≤◌, ◌<◌, ◌+◌, ◌*◌, ℕ, List, length, map, drop, sum_by, Contains, IfOk, IfErr, OnOk, slice_get, slice_index, Some, IsTrue};
+ghost use Rattle.std.specs.Prelude.{◌≡◌, ◌≤◌, ◌<◌, ◌+◌, ◌*◌, ℕ, List, length, map, drop, sum_by, Contains, IfOk};
+ghost use Rattle.std.specs.Prelude.{IfErr, OnOk, slice_get, slice_index, Some, IsTrue};
 ghost use Rattle.aq_store.specs.Count.{after};
 ghost use Rattle.aq_store.specs.Nodes.{pairs_at, HasShape};
 ghost use Rattle.aq_cert.specs.Macros.{IsOfLevel};
@@ -7,7 +8,8 @@ ghost use Rattle.aq_cert.specs.Goals.{goal_rest};
 ghost use Rattle.aq_include.specs.Costs.{Takes, IsCause, rel_weight, weight, size};
 ghost use Rattle.aq_include.specs.Ends.{IsNotWide};
 ghost use Rattle.aq_include.specs.Levels.{HasLevel};
-ghost use Rattle.aq_include.specs.Candidates.{AreChildren, ArePairChildren, AreOfRel, AreOfRels, HasRel, IsStepped, Thins};
+ghost use Rattle.aq_include.specs.Candidates.{AreChildren, ArePairChildren, AreOfRel, AreOfRels, HasRel, IsStepped};
+ghost use Rattle.aq_include.specs.Candidates.{Thins};
 
 use crate::pay::pay;
 use crate::places::{children, pair_children, same_pairs, tidy_pairs, tidy_places};
@@ -64,7 +66,8 @@ fn step_pairs<L: Label>(
     goal_choice: u32,
     steps: &mut Steps,
 ) -> Result<Items<(u32, u32)>, Stop<L>>
-    requires { (p : ℕ × ℕ) → Contains pairs.now p → (choice < length (pairs_at store.now p.0)) × (goal_choice < length (pairs_at store.now p.1)) }
+    requires { (p : ℕ × ℕ) → Contains pairs.now p → (choice < length (pairs_at store.now p.0)) × (goal_choice < length
+        (pairs_at store.now p.1)) }
     ensures children { IfOk result (λ list. ArePairChildren store.now choice goal_choice pairs.now list) }
     ensures paid { OnOk result (steps.new ≡ after (length pairs.now) steps.old) }
     ensures wide { IfErr result IsNotWide }
@@ -91,7 +94,8 @@ fn step_rel<L: Label>(
     choice: u32,
     steps: &mut Steps,
 ) -> Result<Vec<Candidate>, Stop<L>>
-    requires { (p : ℕ × ℕ) → Contains rel.now.pairs p → (choice < length (pairs_at store.now p.0)) × (count ≤ length (pairs_at store.now p.1)) }
+    requires { (p : ℕ × ℕ) → Contains rel.now.pairs p → (choice < length (pairs_at store.now p.0)) × (count ≤ length
+        (pairs_at store.now p.1)) }
     ensures candidates { IfOk result (λ list. AreOfRel store.now choice rel.now number count count list.items) }
     ensures paid { OnOk result (steps.new ≡ after (count * length rel.now.pairs) steps.old) }
     ensures wide { IfErr result IsNotWide }
@@ -142,10 +146,13 @@ fn step_rels<L: Label>(
     choice: u32,
     steps: &mut Steps,
 ) -> Result<Vec<Candidate>, Stop<L>>
-    requires { (left : List ℕ) × IsOfLevel store.now left (goal_rest goals.now level) here.now × (choice < slice_index left 0) }
+    requires { (left : List ℕ) × IsOfLevel store.now left (goal_rest goals.now level) here.now × (choice < slice_index
+        left 0) }
     ensures candidates { IfOk result (λ list. AreOfRels store.now choice (goal_rest goals.now level) here.now.rels list.items) }
-    ensures light { IfOk result (λ list. sum_by (λ x. rel_weight (goal_rest goals.now (level + 1)) x.rel) list.items ≤ 2 * sum_by (rel_weight (goal_rest goals.now level)) here.now.rels) }
-    ensures paid { IfOk result (λ list. sum_by (λ x. length x.rel.pairs) list.items + 2 * steps.old.taken ≤ 2 * steps.new.taken) }
+    ensures light { IfOk result (λ list. sum_by (λ x. rel_weight (goal_rest goals.now (level + 1)) x.rel) list.items ≤ 2 *
+        sum_by (rel_weight (goal_rest goals.now level)) here.now.rels) }
+    ensures paid { IfOk result (λ list. sum_by (λ x. length x.rel.pairs) list.items + 2 * steps.old.taken ≤ 2 *
+        steps.new.taken) }
     ensures wide { IfErr result IsNotWide }
     ensures takes { Takes (sum_by (rel_weight (goal_rest goals.now level)) here.now.rels) steps.old steps.new }
     ensures spent { IfErr result (λ e. IsCause (sum_by (rel_weight (goal_rest goals.now level)) here.now.rels) steps.old e) }
@@ -237,8 +244,10 @@ pub(crate) fn step<L: Label>(
     choice: u32,
     steps: &mut Steps,
 ) -> Result<Stepped, Stop<L>>
-    requires { (left : List ℕ) × IsOfLevel store.now left (goal_rest goals.now level) here.now × (choice < slice_index left 0) }
-    ensures stepped { IfOk result (λ s. IsStepped store.now choice (goal_rest goals.now level) (goal_rest goals.now (level + 1)) here.now s) }
+    requires { (left : List ℕ) × IsOfLevel store.now left (goal_rest goals.now level) here.now × (choice < slice_index
+        left 0) }
+    ensures stepped { IfOk result (λ s. IsStepped store.now choice (goal_rest goals.now level) (goal_rest goals.now (level +
+        1)) here.now s) }
     ensures size { IfOk result (λ s. size s.to + 2 * steps.old.taken ≤ 2 * steps.new.taken) }
     ensures wide { IfErr result IsNotWide }
     ensures takes { Takes (weight (goal_rest goals.now level) here.now) steps.old steps.new }

@@ -1,5 +1,6 @@
 //! The macros that were found good, level by level.
-ghost use Rattle.std.specs.Prelude.{◌≡◌, ◌<◌, ◌≤◌, ◌+◌, ◌*◌, ◌++◌, ◌∷◌, [], ℕ, List, length, IfOk, OnOk, IfSome, IsTrue, Some};
+ghost use Rattle.std.specs.Prelude.{◌≡◌, ◌<◌, ◌≤◌, ◌+◌, ◌*◌, ◌++◌, ◌∷◌, [], ℕ, List, length, IfOk, OnOk, IfSome};
+ghost use Rattle.std.specs.Prelude.{IsTrue, Some};
 ghost use Rattle.aq_cert.specs.Rows.{item_at};
 ghost use Rattle.aq_include.specs.Tables.{IsPushed};
 ghost use Rattle.aq_include.specs.Answers.{IsFresh};

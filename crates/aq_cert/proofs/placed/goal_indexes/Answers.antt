@@ -1,4 +1,4 @@
-use Rattle.std.proofs.Common.{List, [], ◌∷◌, ◌∙◌, length, ap, ◌+◌, arith}
+use Rattle.std.proofs.Common.{List, [], ◌∷◌, ◌∙◌, length, ap, ◌+◌}
 use Rattle.std.proofs.lemmas.List.{length-append}
 use Rattle.aq_cert.specs.declared.index.Index.{Index}
 use Rattle.aq_cert.proofs.PlacedLemmas.{indexes-more}

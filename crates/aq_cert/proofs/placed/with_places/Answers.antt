@@ -1,4 +1,4 @@
-use Rattle.std.proofs.Common.{List, [], ◌∷◌, ◌∙◌, length, sym, ap, subst, ◌+◌, Some, arith}
+use Rattle.std.proofs.Common.{List, [], ◌∷◌, ◌∙◌, length, sym, ap, subst, ◌+◌, Some}
 use Rattle.std.proofs.lemmas.List.{length-append}
 use Rattle.std.proofs.lemmas.Option.{slice_get-get_or}
 use Rattle.aq_cert.specs.declared.cert.Macro.{Macro}

@@ -1,12 +1,12 @@
-use Rattle.std.proofs.Common.{◌≡◌, ◌<◌, ◌≤◌, ◌+◌, ℕ, Bool, true, false, true≢false, List, [], ◌∷◌, length, Contains, Option, Some, None, IfSome, take, sum_by, refl, sym, ap, subst, ◌∙◌, arith, get_or, slice_get}
+use Rattle.std.proofs.Common.{◌≡◌, ◌≤◌, ℕ, Bool, true, false, true≢false, List, [], ◌∷◌, length, Contains, Option, Some, None, IfSome, refl, sym, ap, subst, ◌∙◌, arith, slice_get}
 use Rattle.std.proofs.lemmas.Option.{slice_get-get_or, slice_get_within}
 use Rattle.aq_ring.specs.Fractions.{Amplitude}
 use Rattle.aq_label.specs.declared.Ratio.TheVariants as ratio
-use Rattle.aq_store.specs.Nodes.{IsLeaf, HasShape}
+use Rattle.aq_store.specs.Nodes.{HasShape}
 use Rattle.aq_cert.specs.declared.cert.Rel.{Rel}
 use Rattle.aq_include.specs.Costs.{Takes}
 use Rattle.aq_include.specs.Least.{IsWideAt}
-use Rattle.aq_include.proofs.EndLemmas.{sum-more, sum-within, same-related, none-more, relates-as, pairs-are, no-end, wide-at}
+use Rattle.aq_include.proofs.EndLemmas.{sum-more, sum-within, same-related, none-more, relates-as, pairs-are, wide-at}
 use Rattle.aq_cert.proofs.HeldLemmas.{leaf-of}
 use Rattle.aq_include.proofs.StepLemmas.{takes-then, read-rel}
 use Rattle.aq_include.proofs.end.find_end.Goals.{in-Wide, in-Different}

@@ -1,7 +1,7 @@
-use Rattle.std.proofs.Common.{◌≡◌, ℕ, List, length, sym, subst, arith}
+use Rattle.std.proofs.Common.{◌≡◌, ℕ, length, subst, arith}
 use Rattle.aq_cert.specs.Goals.{goal_rest}
 use Rattle.aq_cert.specs.Placed.{ArePlaced}
-use Rattle.aq_include.specs.Costs.{Takes, IsCause, weight, size}
+use Rattle.aq_include.specs.Costs.{IsCause, weight, size}
 use Rattle.aq_include.specs.Answers.{IsFresh, StopsFor, search_budget}
 use Rattle.aq_include.specs.Search.{Finds, GrowsWith}
 use Rattle.aq_include.proofs.Passed.{passed}

@@ -1,7 +1,6 @@
-use Rattle.std.proofs.Common.{◌≡◌, ◌+◌, ◌<◌, ◌≤◌, ℕ, List, [], ◌∷◌, ◌++◌, length, get_or, slice_get, Some, refl, sym, ap, subst, ◌∙◌, arith}
+use Rattle.std.proofs.Common.{◌≡◌, ◌+◌, ℕ, List, [], ◌∷◌, length, Some, refl, sym, ap, subst, ◌∙◌, arith}
 use Rattle.std.proofs.lemmas.List.{length-append}
 use Rattle.std.proofs.lemmas.Option.{slice_get-get_or}
-use Rattle.aq_store.specs.declared.lsta.Lsta.{Lsta}
 use Rattle.aq_cert.specs.declared.cert.Rel.{Rel}
 use Rattle.aq_include.specs.Answers.{IsRootRel}
 use Rattle.aq_include.proofs.SizeLemmas.{root-size}

@@ -1,4 +1,4 @@
-use Rattle.std.proofs.Common.{◌≡◌, ◌≤◌, ◌<◌, ℕ, List, [], length, take, get_or, Contains, Option, Some, IfSome, refl, sym, ap, subst, ◌∙◌, ◌+◌, arith, Vec, Global}
+use Rattle.std.proofs.Common.{◌≡◌, ℕ, List, take, get_or, Contains, Option, Some, IfSome, sym, ap, subst, ◌∙◌, ◌+◌, arith, Vec, Global}
 use Rattle.std.proofs.lemmas.Grind.{common_steps}
 use Rattle.aq_include.specs.Members.{HasSame}
 use Rattle.aq_include.proofs.PlaceLemmas.{kept-step, skipped-step, pushed-there}

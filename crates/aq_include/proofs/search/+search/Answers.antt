@@ -1,9 +1,8 @@
-use Rattle.std.proofs.Common.{◌≡◌, ◌<◌, ◌≤◌, ◌+◌, ℕ, List, [], ◌∷◌, length, drop, get_or, IfErr, inl, refl, sym, ap, subst, ◌∙◌, arith, rules}
+use Rattle.std.proofs.Common.{◌≡◌, ◌<◌, ◌+◌, ℕ, List, [], ◌∷◌, length, drop, get_or, IfErr, inl, refl, sym, ap, subst, ◌∙◌, arith, rules}
 use Rattle.std.specs.Prelude.{slice_index}
 use Rattle.std.proofs.lemmas.List.{drop_more, get_or_default, length-append}
 use Rattle.aq_cert.specs.declared.cert.Edge.{Edge}
 use Rattle.aq_cert.specs.Goals.{goal_rest}
-use Rattle.aq_cert.specs.Macros.{IsOfLevel}
 use Rattle.aq_include.specs.Costs.{Takes, IsCause, weight, size, budget, turn_budget}
 use Rattle.aq_include.specs.Ends.{StopsWide}
 use Rattle.aq_include.specs.Search.{Finds, Follows, GrowsWith, GrowsBy}

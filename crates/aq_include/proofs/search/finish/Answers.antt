@@ -1,8 +1,8 @@
-use Rattle.std.proofs.Common.{◌≡◌, ◌≤◌, ℕ, List, [], length, drop, sum_by, sym, subst, arith, None, Some}
+use Rattle.std.proofs.Common.{drop, subst, arith}
 use Rattle.std.proofs.lemmas.List.{drop_all}
 use Rattle.aq_cert.specs.Goals.{goal_rest}
 use Rattle.aq_cert.specs.Macros.{IsOfLevel}
-use Rattle.aq_include.specs.Costs.{Takes, IsCause, weight}
+use Rattle.aq_include.specs.Costs.{IsCause, weight}
 use Rattle.aq_include.specs.Ends.{Ends}
 use Rattle.aq_cert.proofs.HeldLemmas.{end-holds}
 use Rattle.aq_include.proofs.Passed.{passed}

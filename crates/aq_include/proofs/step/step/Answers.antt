@@ -1,7 +1,7 @@
-use Rattle.std.proofs.Common.{◌≡◌, ◌+◌, ℕ, List, Contains, length, subst, ap, ◌∙◌}
+use Rattle.std.proofs.Common.{◌+◌, ℕ, List, Contains, subst}
 use Rattle.aq_cert.specs.Goals.{goal_rest}
 use Rattle.aq_include.specs.Candidates.{AreChildren}
-use Rattle.aq_include.proofs.StepLemmas.{domain-pairs, stepped, stepped-size}
+use Rattle.aq_include.proofs.StepLemmas.{domain-pairs, stepped}
 use Rattle.aq_include.proofs.step.step.Goals as goal
 
 pub step_domain-requires : goal.step_domain-requires

@@ -1,6 +1,5 @@
-use Rattle.std.proofs.Common.{◌≡◌, ◌<◌, ◌+◌, ◌*◌, ℕ, List, length, Contains, refl, sym, ap, ap₂, subst, ◌∙◌, arith}
-use Rattle.aq_store.specs.Count.{Count, after}
-use Rattle.aq_store.specs.Nodes.{pairs_at}
+use Rattle.std.proofs.Common.{◌*◌, ℕ, List, length, Contains, refl, ap, subst, ◌∙◌, arith}
+use Rattle.aq_store.specs.Count.{after}
 use Rattle.aq_include.specs.declared.step.Candidate.{Candidate}
 use Rattle.aq_include.specs.Costs.{Takes, IsCause}
 use Rattle.aq_include.specs.Candidates.{ArePairChildren}

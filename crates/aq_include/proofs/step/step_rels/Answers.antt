@@ -1,10 +1,8 @@
-use Rattle.std.proofs.Common.{◌≡◌, ◌<◌, ◌+◌, ◌*◌, ℕ, List, length, Contains, sum_by, refl, sym, ap, ap₂, subst, ◌∙◌, arith}
-use Rattle.aq_store.specs.Count.{Count, after}
+use Rattle.std.proofs.Common.{sum_by, arith}
 use Rattle.aq_cert.specs.Goals.{goal_rest}
-use Rattle.aq_cert.specs.declared.cert.Rel.{Rel}
-use Rattle.aq_include.specs.Costs.{Takes, IsCause, rel_weight}
+use Rattle.aq_include.specs.Costs.{IsCause, rel_weight}
 use Rattle.aq_include.proofs.Passed.{passed}
-use Rattle.aq_include.proofs.StepLemmas.{AtRel, level-of, at-rel, read-rel, weights-within, takes-then, cause-then, of-rels-more, light-more, paid-more, takes-more}
+use Rattle.aq_include.proofs.StepLemmas.{level-of, at-rel, read-rel, weights-within, takes-then, cause-then, of-rels-more, light-more, paid-more, takes-more}
 use Rattle.aq_include.proofs.step.step_rels.Goals as goal
 
 pub goal_choices-count-requires : goal.goal_choices-count-requires

@@ -1,4 +1,4 @@
-use Rattle.std.proofs.Common.{◌≡◌, ◌+◌, ◌*◌, ◌≤◌, length, take, sum_by}
+use Rattle.std.proofs.Common.{◌+◌, ◌*◌, ◌≤◌, length, take, sum_by}
 use Rattle.aq_cert.specs.Goals.{goal_rest}
 use Rattle.aq_include.specs.Costs.{Takes, rel_weight}
 use Rattle.aq_include.specs.Candidates.{AreOfRels}

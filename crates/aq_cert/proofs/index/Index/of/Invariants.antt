@@ -1,4 +1,4 @@
-use Rattle.std.proofs.Common.{◌≡◌, ◌<◌, ℕ, slice_get, Some, nat_eq}
+use Rattle.std.proofs.Common.{◌≡◌, ℕ, slice_get, Some, nat_eq}
 use Rattle.indexmap.specs.IndexMap.{get}
 use Rattle.aq_cert.proofs.index.Index.of.Given as goal
 
