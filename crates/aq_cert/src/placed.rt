@@ -155,8 +155,8 @@ fn goal_levels<L: Label>(
 }
 
 /// The same macros with places in place of nodes, each row by the level of its number. The left and the goals fit the
-/// store. It gives up for want of memory, and also where a goal isn't there or a node isn't in its level, which no macro
-/// has that a search reached from the roots.
+/// store. It gives up for want of memory, and also where a goal isn't there or a node isn't in its level. A search that
+/// goes from the roots to children meets neither, but no contract says so yet.
 pub fn with_places<L: Label>(
     store: &Store<L>,
     alloc: Global,

@@ -77,7 +77,8 @@ fn finish<L: Label>(
     requires level { level ≡ length left.now.shape.items }
     requires here { IsOfLevel store.now (drop level left.now.shape.items) (goal_rest goals.now level) here }
     requires table { IsTable L.parts store.now left.now.shape.items goals.now table.old }
-    ensures finds { IfOk result (λ f. Finds L.parts store.now left.now.shape.items goals.now level here table.old table.new
+    ensures finds { IfOk result (λ f. Finds L.parts store.now left.now.shape.items goals.now level here
+        table.old table.new
         f) }
     ensures size { IfOk result (λ f. GrowsWith (size here) table.old table.new steps.old steps.new f) }
     ensures wide { IfErr result (λ e. StopsWide L.parts store.now here e) }
@@ -112,13 +113,15 @@ pub(crate) fn visit<L: Label>(
     requires level { level ≤ length left.now.shape.items }
     requires here { IsOfLevel store.now (drop level left.now.shape.items) (goal_rest goals.now level) here }
     requires table { IsTable L.parts store.now left.now.shape.items goals.now table.old }
-    ensures finds { IfOk result (λ f. Finds L.parts store.now left.now.shape.items goals.now level here table.old table.new
+    ensures finds { IfOk result (λ f. Finds L.parts store.now left.now.shape.items goals.now level here
+        table.old table.new
         f) }
     ensures size { IfOk result (λ f. GrowsWith (size here) table.old table.new steps.old steps.new f) }
     ensures wide { IfErr result (λ e. StopsWide L.parts store.now here e) }
     ensures takes { Takes (budget (drop level left.now.shape.items) (weight (goal_rest goals.now level) here)) steps.old
         steps.new }
-    ensures spent { IfErr result (λ e. IsCause (budget (drop level left.now.shape.items) (weight (goal_rest goals.now level)
+    ensures spent { IfErr result (λ e. IsCause (budget (drop level left.now.shape.items)
+        (weight (goal_rest goals.now level)
         here)) steps.old e) }
 {
     let _taken = steps.taken();
@@ -166,7 +169,8 @@ fn follow<L: Label>(
     requires choice { choice < slice_index (drop level left.now.shape.items) 0 }
     requires here { IsOfLevel store.now (drop level left.now.shape.items) (goal_rest goals.now level) here.now }
     requires table { IsTable L.parts store.now left.now.shape.items goals.now table.old }
-    requires before { (d : ℕ) (word : List ℕ) → d < choice → IsHeld L.parts store.now (goal_rest goals.now level) here.now (d
+    requires before { (d : ℕ) (word : List ℕ) → d < choice → IsHeld L.parts store.now
+        (goal_rest goals.now level) here.now (d
         ∷ word) }
     ensures follows { IfOk result (λ f. Follows L.parts store.now left.now.shape.items goals.now level choice here.now
         table.old table.new f) }

@@ -148,14 +148,17 @@ fn step_rels<L: Label>(
 ) -> Result<Vec<Candidate>, Stop<L>>
     requires { (left : List ℕ) × IsOfLevel store.now left (goal_rest goals.now level) here.now × (choice < slice_index
         left 0) }
-    ensures candidates { IfOk result (λ list. AreOfRels store.now choice (goal_rest goals.now level) here.now.rels list.items) }
-    ensures light { IfOk result (λ list. sum_by (λ x. rel_weight (goal_rest goals.now (level + 1)) x.rel) list.items ≤ 2 *
+    ensures candidates { IfOk result (λ list. AreOfRels store.now choice (goal_rest goals.now level) here.now.rels
+        list.items) }
+    ensures light { IfOk result (λ list. sum_by (λ x. rel_weight (goal_rest goals.now (level + 1)) x.rel) list.items
+        ≤ 2 *
         sum_by (rel_weight (goal_rest goals.now level)) here.now.rels) }
     ensures paid { IfOk result (λ list. sum_by (λ x. length x.rel.pairs) list.items + 2 * steps.old.taken ≤ 2 *
         steps.new.taken) }
     ensures wide { IfErr result IsNotWide }
     ensures takes { Takes (sum_by (rel_weight (goal_rest goals.now level)) here.now.rels) steps.old steps.new }
-    ensures spent { IfErr result (λ e. IsCause (sum_by (rel_weight (goal_rest goals.now level)) here.now.rels) steps.old e) }
+    ensures spent { IfErr result (λ e. IsCause (sum_by (rel_weight (goal_rest goals.now level)) here.now.rels) steps.old
+        e) }
 {
     let _taken = steps.taken();
     let mut list = Vec::new(alloc);
@@ -246,7 +249,8 @@ pub(crate) fn step<L: Label>(
 ) -> Result<Stepped, Stop<L>>
     requires { (left : List ℕ) × IsOfLevel store.now left (goal_rest goals.now level) here.now × (choice < slice_index
         left 0) }
-    ensures stepped { IfOk result (λ s. IsStepped store.now choice (goal_rest goals.now level) (goal_rest goals.now (level +
+    ensures stepped { IfOk result (λ s. IsStepped store.now choice (goal_rest goals.now level)
+        (goal_rest goals.now (level +
         1)) here.now s) }
     ensures size { IfOk result (λ s. size s.to + 2 * steps.old.taken ≤ 2 * steps.new.taken) }
     ensures wide { IfErr result IsNotWide }

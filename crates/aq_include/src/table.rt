@@ -11,8 +11,8 @@ use indexmap::IndexMap;
 use sqlite_items::Items;
 use std::alloc::{AllocError, Global};
 
-/// The good macros of each level, each with an edge for each choice, the ends of the last level's, and where a macro with
-/// given content may stand.
+/// The good macros of each level, each with an edge for each choice, the ends of the last level's, and where a macro
+/// with given content may stand.
 #[derive(Drop)]
 pub(crate) struct Table {
     pub(crate) macros: Vec<Items<Macro>>,
