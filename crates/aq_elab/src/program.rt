@@ -2,9 +2,10 @@
 ghost use Rattle.std.specs.Prelude.{◌≡◌, ◌≤◌, length, All, IfOk, IfErr};
 ghost use Rattle.aq_prog.specs.Programs.{IsValidProgram, IsWritten};
 ghost use Rattle.aq_elab.specs.Texts.{SaysProgram};
-ghost use Rattle.aq_top.specs.ProgramFaults.{HasProgramFault, fault_name, fault_place};
+ghost use Rattle.aq_elab.specs.ProgramFaults.{HasProgramFault, fault_name, fault_place};
 
-use aq_elab::{ElabFault, elaborate};
+use crate::elaborator::elaborate;
+use crate::fault::ElabFault;
 use aq_lex::{LexFault, Place, tokens};
 use aq_parse::{ParseFault, parse};
 use aq_prog::Program;
@@ -45,8 +46,9 @@ impl ProgramFault {
     }
 }
 
-/// The program that a text says, or the first fault of the text. Want of memory is a fault that may come at any text.
-pub(crate) fn read_program(alloc: Global, source: &[u8]) -> Result<Program, ProgramFault>
+/// The program that a text of at most 1,048,576 bytes says, or the first fault of the text. Want of memory is a fault
+/// that may come at any text.
+pub fn read_program(alloc: Global, source: &[u8]) -> Result<Program, ProgramFault>
     requires { length source.now ≤ 1048576 }
     ensures says { IfOk result (SaysProgram source.now) }
     // Its numbers are in range, and it has no assumption.

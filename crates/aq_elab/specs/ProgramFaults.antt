@@ -1,9 +1,10 @@
--- The first fault of a program's text: when it has it, its name, its place and its word.
+-- The first fault of a program's text: when the text has it, its name, its place and its word.
 use Rattle.std.specs.Prelude.{◌≡◌, ℕ, List, Option, Some, None, Ok}
 use Rattle.aq_base.specs.Limits.{most_nested}
 use Rattle.aq_lex.specs.Cuts.{Reads}
 use Rattle.aq_lex.specs.FaultNames as lexed
 use Rattle.aq_lex.specs.Told as lex
+use Rattle.aq_lex.specs.declared.fault.LexFault.TheVariants as token
 use Rattle.aq_lex.specs.declared.place.Place.{Place}
 use Rattle.aq_lex.specs.declared.token.Token.{Token}
 use Rattle.aq_parse.specs.FaultNames as parsed
@@ -14,8 +15,8 @@ use Rattle.aq_parse.specs.declared.fault.ParseFault.TheVariants as tree
 use Rattle.aq_elab.specs.FaultNames as meant
 use Rattle.aq_elab.specs.Texts.{SaysNoProgram}
 use Rattle.aq_elab.specs.declared.fault.ElabFault.TheVariants as elab
-use Rattle.aq_top.specs.declared.program.ProgramFault.{ProgramFault}
-use Rattle.aq_top.specs.declared.program.ProgramFault.TheVariants as fault
+use Rattle.aq_elab.specs.declared.program.ProgramFault.{ProgramFault}
+use Rattle.aq_elab.specs.declared.program.ProgramFault.TheVariants as fault
 
 -- The text has tokens, of which this is the first fault.
 pub record HasParseFault (text : List ℕ) (f : ParseFault) : Type 0 where
@@ -29,6 +30,12 @@ abbrev pub HasProgramFault : List ℕ → ProgramFault → Type 0
 HasProgramFault text (fault.Lex f) = lex.FaultOf text f
 HasProgramFault text (fault.Parse f) = HasParseFault text f
 HasProgramFault text (fault.Elab f) = (f ≡ elab.Memory → ⊥) → SaysNoProgram text f
+
+-- want of memory, which says nothing of the text
+abbrev pub IsMemory : ProgramFault → Type 0
+IsMemory (fault.Lex f) = f ≡ token.Memory
+IsMemory (fault.Parse f) = f ≡ tree.Memory
+IsMemory (fault.Elab f) = f ≡ elab.Memory
 
 -- its name
 abbrev pub fault_name : ProgramFault → List ℕ
