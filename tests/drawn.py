@@ -265,7 +265,7 @@ def drawn_dynamic_program(draw):
 
 def outcomes_of(text):
     """How many measurements and resets a program comes to."""
-    return sum(statement[0] in ("measure", "reset") for statement in plain.inside(language.read(text.encode())[2]))
+    return sum(statement[0] in ("measure", "reset") for statement in plain.inside(language.read(text.encode()).body))
 
 
 def bracket_of(vector, qubits):
@@ -275,9 +275,9 @@ def bracket_of(vector, qubits):
 
 def worlds_from(program, sets, name):
     """The worlds of a program from the vectors of a set."""
-    qubits, registers, body = language.read(program.encode())
+    found = language.read(program.encode())
     start = plain.vectors(set_language.read(sets.encode())[1][name.encode()])[0]
-    return plain.worlds_of(plain.count_bits(registers), qubits, body, [(start, [])])
+    return plain.worlds_from_start(found, start)
 
 
 def cases_of_ends(draw, worlds, qubits, bits):
