@@ -1,6 +1,6 @@
 ghost use Rattle.std.specs.Prelude.{◌≡◌, ◌<◌, ◌≤◌, ◌^◌, IfOk};
 
-use crate::{Refutation, Verdict, Why, print_replay, print_summary, print_verdict};
+use crate::{Refutation, Verdict, Why, print_replay, print_summary, print_verdict, reports};
 use aq_lex::Text;
 use aq_obligations::{Goal, Kind};
 use aq_plain::{Played, Vector};
@@ -124,6 +124,7 @@ fn a_refutation_without_bits(rt: HostRuntime) -> Result<(), Fail> {
 
 #[test]
 fn a_refutation_with_bits(rt: HostRuntime) -> Result<(), Fail> {
+    reports();
     let mut end = Vector::zero(rt.alloc(), 2)?;
     end.set(0, Amp::from_parts([1, 0, 0, -2], 3).ok_or("first")?);
     end.set(3, Amp::from_parts([0, -15, 4, 0], 0).ok_or("last")?);
