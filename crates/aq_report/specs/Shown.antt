@@ -22,3 +22,9 @@ abbrev pub IsVerdictOn : ℕ → Verdict → Type 0
 IsVerdictOn n verdict.Verified = Unit {0}
 IsVerdictOn n (verdict.GaveUp w) = Unit {0}
 IsVerdictOn n (verdict.Refuted r) = IsOn n r.state × IsOn n r.end
+
+-- the verdict's vectors, if it has any, have this number of qubits
+abbrev pub HasQubits : ℕ → Verdict → Type 0
+HasQubits n verdict.Verified = Unit {0}
+HasQubits n (verdict.GaveUp w) = Unit {0}
+HasQubits n (verdict.Refuted r) = (r.state.qubits ≡ n) × (r.end.qubits ≡ n)

@@ -8,7 +8,7 @@ mod refusal;
 mod tests;
 mod verdict;
 
-pub use laws::reports;
+pub use laws::{reports, verdicts};
 pub use print::{print_replay, print_summary, print_verdict};
 pub use refusal::{Refusal, print_refusal};
 pub use verdict::{Refutation, Verdict, Why};

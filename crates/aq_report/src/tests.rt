@@ -1,6 +1,8 @@
 ghost use Rattle.std.specs.Prelude.{◌≡◌, ◌<◌, ◌≤◌, ◌^◌, IfOk};
 
-use crate::{Refutation, Verdict, Why, print_replay, print_summary, print_verdict, reports};
+use crate::{
+    Refutation, Verdict, Why, print_replay, print_summary, print_verdict, reports, verdicts,
+};
 use aq_lex::Text;
 use aq_obligations::{Goal, Kind};
 use aq_plain::{Played, Vector};
@@ -135,6 +137,7 @@ fn a_refutation_with_bits(rt: HostRuntime) -> Result<(), Fail> {
         end_bits: Items::from_slice(rt.alloc(), &[false, true, true])?,
         end,
     });
+    verdicts(&verdict);
     let mut out = empty_sink(rt.alloc());
     assert!(rt; verdict_by(rt.alloc(), &mut out, 3, Kind::Keep, 12, &verdict));
     let wanted =
