@@ -1,6 +1,7 @@
 use crate::elaborator::elaborate;
 use crate::fault::ElabFault;
-use crate::laws::elaborations;
+use crate::laws::{elaborations, program_texts};
+use crate::program::read_program;
 use aq_lex::{Place, tokens};
 use aq_parse::parse;
 use aq_prog::{BitRegister, Program, Stmt};
@@ -51,6 +52,34 @@ fn no_invariant(column: u32) -> Option<ElabFault> {
 
 fn stray(line: u32) -> Option<ElabFault> {
     Some(ElabFault::StrayAnnotation { at: at(line, 1) })
+}
+
+/// The name of the first fault of a text.
+fn first_fault(rt: &HostRuntime, source: &[u8]) -> Option<&'static str> {
+    if source.len() > 1_048_576 {
+        return None;
+    }
+    match read_program(rt.alloc(), source) {
+        Ok(_) => None,
+        Err(fault) => Some(fault.name()),
+    }
+}
+
+// A fault of the tokens comes before one of the tree, wherever they stand, and that before one of the meaning.
+#[test]
+fn first_faults_of_texts(rt: HostRuntime) {
+    program_texts();
+    assert_eq!(rt; first_fault(&rt, b"qubit q; h q;"), None);
+    assert_eq!(rt; first_fault(&rt, b"qubit q; h r;"), Some("UnknownName"));
+    assert_eq!(rt;
+        first_fault(&rt, b"qubit q; h r; qubit"),
+        Some("Unexpected")
+    );
+    assert_eq!(rt; first_fault(&rt, b"qubit q; h r; qubit %"), Some("BadByte"));
+    assert_eq!(rt;
+        first_fault(&rt, b"qubit q; h r; qubit % \xff"),
+        Some("NotUtf8")
+    );
 }
 
 #[test]

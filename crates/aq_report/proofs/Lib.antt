@@ -1,1 +1,3 @@
 pub mod EntriesLemmas
+pub mod Splits
+pub mod ReportLaws

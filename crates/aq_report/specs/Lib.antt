@@ -1,3 +1,4 @@
 pub mod Verdicts
 pub mod Texts
+pub mod Shown
 pub mod Refusals

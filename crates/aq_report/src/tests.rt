@@ -1,6 +1,8 @@
 ghost use Rattle.std.specs.Prelude.{◌≡◌, ◌<◌, ◌≤◌, ◌^◌, IfOk};
 
-use crate::{Refutation, Verdict, Why, print_replay, print_summary, print_verdict};
+use crate::{
+    Refutation, Verdict, Why, print_replay, print_summary, print_verdict, reports, verdicts,
+};
 use aq_lex::Text;
 use aq_obligations::{Goal, Kind};
 use aq_plain::{Played, Vector};
@@ -124,6 +126,7 @@ fn a_refutation_without_bits(rt: HostRuntime) -> Result<(), Fail> {
 
 #[test]
 fn a_refutation_with_bits(rt: HostRuntime) -> Result<(), Fail> {
+    reports();
     let mut end = Vector::zero(rt.alloc(), 2)?;
     end.set(0, Amp::from_parts([1, 0, 0, -2], 3).ok_or("first")?);
     end.set(3, Amp::from_parts([0, -15, 4, 0], 0).ok_or("last")?);
@@ -134,6 +137,7 @@ fn a_refutation_with_bits(rt: HostRuntime) -> Result<(), Fail> {
         end_bits: Items::from_slice(rt.alloc(), &[false, true, true])?,
         end,
     });
+    verdicts(&verdict);
     let mut out = empty_sink(rt.alloc());
     assert!(rt; verdict_by(rt.alloc(), &mut out, 3, Kind::Keep, 12, &verdict));
     let wanted =
