@@ -193,6 +193,36 @@ judged(
     ("post", refutation("0", [("0", ONE)], "0", "0", [("1", "(-1,0,0,0)/1")])),
 )
 
+# ---- invariants that are too weak, and what their refutations tell
+
+TRY = "h work; t work; cx work, data; h work; cx work, data; t work; h work;\nfailed = measure work;\n"
+TRIES = "qubit work; qubit kept; qubit data; bit failed;\n" + TRY + "@invariant tried\nwhile (failed) {\nx work;\n" + TRY + "}\n"
+PAIR = "set pair = [|00> + |11>];\nset turned = [|00> + 2i/sqrt2|01> + 2i/sqrt2|10> + |11>];\n"
+# a failed try has the factor (1 + i)/(2 sqrt(2)), which is w/2
+FAILED = refutation("0", [("000", ONE), ("011", ONE)], "1", "1", [("100", "(0,1,0,0)/2"), ("111", "(0,1,0,0)/2")])
+for name, tried, entry in [
+    ("tries", "[|0>] * turned when failed == 0, [|1>] * pair when failed == 1", VERIFIED),
+    ("tries of which one may not fail", "[|0>] * turned when failed == 0", FAILED),
+]:
+    sets = PAIR + claims(pre="[|0>] * pair", tried=tried, post="[|0>] * turned")
+    judged(name, TRIES, sets, ("entry line 5", entry), ("keep line 5", VERIFIED), ("post", VERIFIED))
+judged(
+    "an inner loop that forgets a bit of the outer one",
+    "qubit[2] coin; bit[2] c;\nh coin[0]; c[0] = measure coin[0];\n@invariant first\nwhile (c[0]) {\n"
+    "h coin; c = measure coin;\n@invariant both\nwhile (c[1]) { h coin[1]; c[1] = measure coin[1]; }\n}\n",
+    claims(
+        pre="[|00>]",
+        first="[|00>] when c[0] == 0, [|10>] when c[0] == 1",
+        both="all 1 * [|0>] when c[1] == 0, all 1 * [|1>] when c[1] == 1",
+        post="[|00>]",
+    ),
+    ("entry line 4", VERIFIED),
+    ("entry line 7", VERIFIED),
+    ("keep line 7", VERIFIED),
+    ("keep line 4", refutation("00", [("10", ONE)], "-", "00", [("10", ONE)])),
+    ("post", VERIFIED),
+)
+
 # ---- assertions
 
 judged(
