@@ -9,4 +9,5 @@ pub mod ValidNotes
 pub mod ValidStatements
 pub mod ValidTrees
 pub mod ValidLaws
+pub mod NoMemory
 pub mod TextsLaws

@@ -10,3 +10,4 @@ pub mod Bounds
 pub mod Behind
 pub mod Nodes
 pub mod FaultNames
+pub mod ProgramFaults

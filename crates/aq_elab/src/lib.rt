@@ -10,6 +10,7 @@ mod fault;
 mod gates;
 mod laws;
 mod notes;
+mod program;
 mod recipe;
 mod scope;
 mod simple;
@@ -19,4 +20,5 @@ mod tests;
 
 pub use elaborator::elaborate;
 pub use fault::ElabFault;
-pub use laws::elaborations;
+pub use laws::{elaborations, program_texts};
+pub use program::{ProgramFault, read_program};

@@ -41,8 +41,8 @@ fn try_judge(
     }
 }
 
-/// Judges an obligation of the program: whether each run of its statements, from a state of one of its cases, ends in zero
-/// or in a nonzero multiple of a vector of a case of the goal whose conditions hold there.
+/// Judges an obligation of the program: whether each run of its statements, from a state of one of its cases, ends in
+/// zero or in a nonzero multiple of a vector of a case of the goal whose conditions hold there.
 ///
 /// The verdict is justified. A refutation is that of the first vector which isn't kept, of the first world that has
 /// one. `GaveUp(Steps)`: exactly where the limit is below the number of steps that are enough, which is told before

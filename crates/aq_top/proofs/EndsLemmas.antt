@@ -11,6 +11,8 @@ use Rattle.aq_world.specs.declared.sink.SinkFault.TheVariants as fault
 use Rattle.aq_obligations.specs.Correct.{IsCorrect}
 use Rattle.aq_obligations.specs.Asking.{case_of, products_in}
 use Rattle.aq_obligations.specs.declared.bound.BoundCase.{BoundCase}
+use Rattle.aq_obligations.specs.declared.bound.Obligation.{Obligation}
+use Rattle.aq_sets.specs.declared.sets.Sets.{Sets}
 use Rattle.aq_correct.specs.OwingLaws.{TrueThenCorrect}
 use Rattle.aq_owing.specs.Asking.{Asked, asked}
 use Rattle.aq_owing.specs.Made.{owed_by}
@@ -30,14 +32,14 @@ use Rattle.aq_report.specs.declared.refusal.Refusal.{Refusal}
 use Rattle.aq_report.specs.declared.refusal.Refusal.TheVariants as refusal
 use Rattle.aq_report.specs.declared.verdict.Verdict.{Verdict}
 use Rattle.aq_elab.proofs.TextsLaws.{one_program}
-use Rattle.aq_top.specs.Check.{CheckWords, CheckCause, CheckEnd, IsReport, ReadsTask}
-use Rattle.aq_top.specs.Judging.{verdicts_status}
+use Rattle.aq_top.specs.Check.{CheckWords, CheckCause, CheckEnd, IsReport, ReadsObligations, ReadsTask}
+use Rattle.aq_top.specs.Judging.{EndsWithVerdicts, verdicts_status}
 use Rattle.aq_top.specs.Clauses.{IsAnswer, IsReportOf, StatusSays, TellsTheRun, ToldIsCorrect}
 use Rattle.aq_top.specs.Commands.{Command, Check, Replay, RunEnd}
 use Rattle.aq_top.specs.Ends.{Ends, EndsAs, IsText, StoppedBy, refusal_status, status_of}
 use Rattle.aq_top.specs.Reads.{MayHold}
 use Rattle.aq_top.specs.Replay.{ReplayWords, ReplayCause, ReplayEnd, IsReplay, ReadsStart, begins}
-use Rattle.aq_top.specs.Tasks.{Task, IsTask, owed_in, program_of}
+use Rattle.aq_top.specs.Tasks.{Task, IsTask, owed_in, program_of, task_of}
 use Rattle.aq_top.proofs.ReportLemmas.{all_true}
 use Rattle.aq_top.specs.declared.status.Status.{Status}
 use Rattle.aq_top.specs.declared.status.Status.TheVariants as status
@@ -79,6 +81,16 @@ EndsAs-says Stopped E Says result written f w m (inr (inr e)) = subst (λ (s : S
 pub report_end : (told : Option Held) (RF : List ℕ → Type 0) (w : CheckWords) (t : Task) (vs : List Verdict) → ReadsTask told w t
     → AreJustified w.steps t.program t.sets (owed_in t) vs → (s : Status) (text : List ℕ) → IsText (verdicts_status vs) (report (owed_in t) vs) s text → CheckEnd told RF w s text
 report_end told RF w t vs read justified s text e = inl (record { task = t; read = read; verdicts = vs; justified = justified; status_is = e.0; text_is = e.1 })
+
+-- the report of what was read
+pub loaded_end : {S : Type 0} (sink : SinkMeaning S) (old new : S) (told : Option Held) (RF : List ℕ → Type 0) (w : CheckWords) (p : Program) (s : Sets) (os : List Obligation) (result : Status)
+    → ReadsObligations told w p s os → EndsWithVerdicts sink old new w.steps p s os (report os) result → Ends sink old new (CheckEnd told RF w) result
+loaded_end sink old new told RF w p s os result r e =
+    let vs = e.verdicts in
+    let justified = subst (λ (l : List Obligation). AreJustified w.steps p s l vs) r.owed e.justified in
+    Ends-more sink old new (IsText (verdicts_status vs) (report os vs)) (CheckEnd told RF w) result
+    (λ st text h. report_end told RF w (task_of p s r.claims) vs r.read justified st text (subst (λ (l : List Obligation). IsText (verdicts_status vs) (report l vs) st text) r.owed h))
+    e.ends
 
 pub refused_end : (told : Option Held) (RF : List ℕ → Type 0) (w : CheckWords) (r : Refusal) → CheckCause told RF w r
     → (s : Status) (text : List ℕ) → IsText (refusal_status r) (refusal_text r) s text → CheckEnd told RF w s text

@@ -1,4 +1,5 @@
 pub mod ReportLemmas
+pub mod MadeLemmas
 pub mod EndsLemmas
 pub mod ReadsLemmas
 pub mod ReplayLemmas

@@ -1,6 +1,6 @@
 -- Reports of several verdicts: how they grow, their counts and their status.
-use Rattle.std.proofs.Common.{◌≡◌, ℕ, zero, suc, ◌+◌, ◌<◌, ◌≤◌, Bool, true, false, cond, List, [], ◌∷◌, ◌++◌, All, length, map, take, drop, get_or, count_by, Result, Ok, Err, IfOk, nat_lt, refl, ap, ap₂, sym, ◌∙◌, subst, arith, append-nil, append_assoc, add-one, take-append-drop, min, ◌^◌, ◌-◌, ◌||◌, if◌then◌else◌}
-use Rattle.std.proofs.lemmas.List.{take_all}
+use Rattle.std.proofs.Common.{◌≡◌, ℕ, zero, suc, ◌+◌, ◌<◌, ◌≤◌, Bool, true, false, List, [], ◌∷◌, ◌++◌, All, length, map, take, drop, get_or, count_by, Result, Ok, Err, IfOk, nat_lt, refl, ap, ap₂, sym, ◌∙◌, subst, arith, append-nil, append_assoc, add-one, take-append-drop, min, ◌^◌, ◌-◌, ◌||◌, if◌then◌else◌}
+use Rattle.std.proofs.lemmas.List.{length-take, take_all}
 use Rattle.std.specs.List.{list_any}
 use Rattle.std.proofs.lemmas.Bool.Decides.{nat_tests}
 use Rattle.std.proofs.lemmas.List.Elements.{All-cons, All-nil}
@@ -100,13 +100,13 @@ module _ (limit : ℕ) (p : Program) (s : Sets) where
 abbrev one : Bool → ℕ
 one b = if b then 1 else 0
 
+one_more_any : (b : Bool) (n : ℕ) (rest : Bool) → nat_lt 0 n ≡ rest → nat_lt 0 (one b + n) ≡ (b || rest)
+one_more_any true n rest e = grind (arith, nat_tests)
+one_more_any false n rest e = let same : 0 + n ≡ n = omega arith in ap (nat_lt 0) same ∙ e
+
 counted_any : (test : Verdict → Bool) (vs : List Verdict) → nat_lt 0 (count_by test vs) ≡ list_any test vs
 counted_any test [] = refl
-counted_any test (v ∷ vs) = ap (nat_lt 0) (sum_by-cons (λ x. one (test x)) v vs) ∙ by_test (test v)
-  where
-    by_test : (b : Bool) → nat_lt 0 (one b + count_by test vs) ≡ (b || list_any test vs)
-    by_test true = grind (arith, nat_tests)
-    by_test false = let same : 0 + count_by test vs ≡ count_by test vs = omega arith in ap (nat_lt 0) same ∙ counted_any test vs
+counted_any test (v ∷ vs) = ap (nat_lt 0) (sum_by-cons (λ x. one (test x)) v vs) ∙ one_more_any (test v) (count_by test vs) (list_any test vs) (counted_any test vs)
 
 at_most_one : (b : Bool) → one b ≤ 1
 at_most_one true = omega arith
@@ -240,6 +240,10 @@ so_far_end sink old new limit p s os i t h f =
       prints = record { bytes = prints.bytes; calls = prints.calls; later = prints.later; failed = tt };
       counts = f.counts;
     }
+
+-- so many are few enough to be counted
+pub few_so_far : (os : List Obligation) (i : ℕ) (vs : List Verdict) → length os ≤ most_obligations → length vs ≡ length (take i os) → length vs ≤ most_obligations
+few_so_far os i vs h e = let cut = length-take i os in omega (arith, h, e, cut)
 
 -- the counts behind the lines
 pub counts_behind : {S : Type 0} (sink : SinkMeaning S) (old mid new : S) (limit : ℕ) (p : Program) (s : Sets) (os : List Obligation) (r z : Result Tally SinkFault) (t : Tally)

@@ -5,7 +5,6 @@ pub mod Codes
 pub mod Commands
 pub mod Ends
 pub mod Lines
-pub mod ProgramFaults
 pub mod Reads
 pub mod Replay
 pub mod Tasks

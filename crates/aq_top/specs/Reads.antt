@@ -12,8 +12,8 @@ use Rattle.aq_set_read.specs.declared.set_fault.SetFault.{SetFault}
 use Rattle.aq_sets.specs.declared.sets.Sets.{Sets}
 use Rattle.aq_report.specs.declared.refusal.Refusal.{Refusal}
 use Rattle.aq_report.specs.declared.refusal.Refusal.TheVariants as refusal
-use Rattle.aq_top.specs.ProgramFaults.{HasProgramFault, fault_name, fault_place, fault_word}
-use Rattle.aq_top.specs.declared.program.ProgramFault.{ProgramFault}
+use Rattle.aq_elab.specs.ProgramFaults.{HasProgramFault, fault_name, fault_place, fault_word}
+use Rattle.aq_elab.specs.declared.program.ProgramFault.{ProgramFault}
 
 -- ---- files
 

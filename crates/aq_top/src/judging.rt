@@ -5,7 +5,8 @@ ghost use Rattle.aq_prog.specs.Programs.{IsValidProgram};
 ghost use Rattle.aq_sets.specs.Caps.{capped_sizes};
 ghost use Rattle.aq_sets.specs.Valid.{IsValidSets};
 ghost use Rattle.aq_obligations.specs.Bound.{IsBoundObligation};
-ghost use Rattle.aq_report.specs.Texts.{lines_from, report};
+ghost use Rattle.aq_world.specs.Prints.{Prints};
+ghost use Rattle.aq_report.specs.Texts.{counts_text, lines_from, report};
 ghost use Rattle.aq_report.specs.declared.verdict.Verdict.{Verdict as VerdictValue};
 ghost use Rattle.aq_top.specs.Ends.{status_of};
 ghost use Rattle.aq_top.specs.Judging.{EndsWithVerdicts, IsTally, PrintsVerdicts, verdicts_status};
@@ -158,12 +159,7 @@ fn report_status(printed: Result<Tally, SinkFault>) -> Status
 }
 
 /// Judges the obligations in order and says the report.
-pub(crate) fn say_report<K: Sink>(
-    alloc: Global,
-    loaded: &Loaded,
-    steps: u64,
-    out: &mut K,
-) -> Status
+pub(crate) fn say_report<K: Sink>(alloc: Global, loaded: &Loaded, steps: u64, out: &mut K) -> Status
     requires program { IsValidProgram loaded.now.program }
     requires sets { IsValidSets loaded.now.sets }
     requires told { loaded.now.sizes ≡ capped_sizes loaded.now.sets.exprs }

@@ -7,7 +7,6 @@ mod command;
 mod honest;
 mod judging;
 mod outcomes;
-mod program;
 mod read;
 mod replay;
 mod say;

@@ -12,8 +12,8 @@ ghost use Rattle.aq_top.specs.Reads.{
   TellsSetFault,
 };
 
-use crate::program::{ProgramFault, read_program};
 use aq_base::{MOST_PROGRAM_BYTES, MOST_SETS_BYTES};
+use aq_elab::{ProgramFault, read_program};
 use aq_parse::ParseFault;
 use aq_prog::Program;
 use aq_report::Refusal;

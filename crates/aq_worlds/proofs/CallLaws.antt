@@ -17,7 +17,7 @@ use Rattle.aq_worlds.specs.Playing.{world_of, HasUnfit, IsSized, Gives, AreUnfit
 use Rattle.aq_worlds.specs.declared.stop.Stop.{Stop}
 use Rattle.aq_worlds.specs.declared.stop.Stop.TheVariants as stop
 use Rattle.aq_worlds.specs.declared.world.PlainWorld.{PlainWorld}
-use Rattle.aq_worlds.proofs.SpreadLaws.{meets_gate, branch_bit, assume_bit, alone, sized_at, no_case, LeadsOn}
+use Rattle.aq_worlds.proofs.SpreadLaws.{meets_gate, branch_bit, assume_bit, alone, no_case, LeadsOn}
 
 pub stops_gives : {P Q : Type 0} (e : Stop) → StopsFor P e → (P → Q) → StopsFor Q e
 stops_gives stop.Width h f = f h

@@ -8,3 +8,4 @@ mod SameLaws
 mod StartLaws
 mod DecideLaws
 mod CaseLaws
+mod ExampleLaws

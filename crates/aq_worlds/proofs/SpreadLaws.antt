@@ -4,10 +4,10 @@ use Rattle.std.specs.List.{flat_map, list_any}
 use Rattle.std.proofs.lemmas.List.{take_more, length-set, map-append}
 use Rattle.std.proofs.Math.Seq.{take-length}
 use Rattle.std.proofs.lemmas.List.Concat.{flat_map-append}
-use Rattle.std.proofs.lemmas.List.Elements.{All-nil, All-cons, All-append, All-filter, All-head, All-get_or, All-map, filter-append, Contains-append_left, Contains-append_right, Contains-append_cases}
+use Rattle.std.proofs.lemmas.List.Elements.{All-nil, All-cons, All-append, All-filter, All-head, All-get_or, filter-append, Contains-append_left, Contains-append_right, Contains-append_cases}
 use Rattle.std.proofs.lemmas.List.Folds.{list_all-map}
 use Rattle.aq_ring.specs.Vectors.{is_zero_vector}
-use Rattle.aq_prog.specs.Cuts.{has_cut, cut_step}
+use Rattle.aq_prog.specs.Cuts.{has_cut}
 use Rattle.aq_prog.specs.Gates.{apply_gate}
 use Rattle.aq_prog.specs.Programs.{IsValidLevel, IsValidStmt}
 use Rattle.aq_prog.specs.declared.gate.Gate.{Gate}
@@ -17,7 +17,7 @@ use Rattle.aq_prog.specs.declared.stmt.Stmt.TheVariants as stmt
 use Rattle.aq_prog.specs.declared.stmt.Stmt.TheOpen.{Stmt-F}
 use Rattle.aq_prog.specs.declared.stmt.Stmt.TheFolds.{every_here-Stmt}
 use Rattle.aq_prog.specs.declared.stmt.Stmt.TheViews.{roll-Stmt, out-roll-Stmt}
-use Rattle.aq_prog.proofs.StmtLaws.{fold-gate, fold-measure, fold-reset, fold-if, fold-while, fold-assert, fold-assume, para-gate, para-if}
+use Rattle.aq_prog.proofs.StmtLaws.{fold-gate, fold-measure, fold-reset, fold-if, fold-assume, para-gate, para-if}
 use Rattle.aq_prog.proofs.CutLaws.{branch_cuts}
 use Rattle.aq_plain.specs.Replaying.{IsPlayableStmt}
 use Rattle.aq_plain.specs.Vectors.{StateVector}
@@ -26,7 +26,7 @@ use Rattle.aq_obligations.specs.Covering.{Met, Meets, meets, meets_step, meets_o
 use Rattle.aq_obligations.specs.Worlds.{World, Spread, Partial, in_worlds, spread, spread_step, split, is_known, stored, assumed_worlds, with_vectors, measured_world, reset_world}
 use Rattle.aq_correct.specs.WorldLaws.{is_alive}
 use Rattle.aq_correct.proofs.NoughtLaws.{nought_worlds}
-use Rattle.aq_worlds.specs.Playing.{AreOn, world_of, is_nothing, lives, IsSized, AreSized, Gives, Collects, Leaves, MeetsUnfit, AreUnfit, spread_of, branch_of, branch_met}
+use Rattle.aq_worlds.specs.Playing.{world_of, is_nothing, lives, IsSized, AreSized, Gives, Collects, Leaves, MeetsUnfit, AreUnfit, spread_of, branch_of, branch_met}
 use Rattle.aq_worlds.specs.declared.world.PlainWorld.{PlainWorld}
 
 -- ---- the worlds that are left

@@ -1,6 +1,7 @@
 //! The worlds of an obligation, played over plain lists of vectors.
 //!
-//! `specs/Playing` says which world of the definitions one is.
+//! `specs/Playing` says which world of the definitions one is, and `specs/Starting` what is done at the start and the
+//! end of a case.
 #![tactic(auto)]
 
 mod case;
@@ -9,6 +10,8 @@ mod several;
 mod spread;
 mod start;
 mod stop;
+#[cfg(test)]
+mod tests;
 mod vectors;
 mod world;
 

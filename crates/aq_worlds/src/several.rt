@@ -1,8 +1,32 @@
 //! Several worlds: those that a step on one leaves.
-ghost use Rattle.std.specs.Prelude.{◌≡◌, ◌<◌, ℕ, All, IfErr, IfOk, IfSome, OnOk, ◌++◌, [], ◌∷◌, length, filter, false, true, slice_get};
+ghost use Rattle.std.specs.Prelude.{
+  ◌≡◌,
+  ◌<◌,
+  ℕ,
+  All,
+  IfErr,
+  IfOk,
+  IfSome,
+  OnOk,
+  ◌++◌,
+  [],
+  ◌∷◌,
+  length,
+  filter,
+  false,
+  true,
+  slice_get,
+};
 ghost use Rattle.aq_prog.specs.Gates.{apply_gate, IsValidGate};
 ghost use Rattle.aq_obligations.specs.Claims.{ClaimCase};
-ghost use Rattle.aq_obligations.specs.Worlds.{assumed_worlds, decided, measured_world, reset_world, split, with_vectors};
+ghost use Rattle.aq_obligations.specs.Worlds.{
+  assumed_worlds,
+  decided,
+  measured_world,
+  reset_world,
+  split,
+  with_vectors,
+};
 ghost use Rattle.aq_correct.specs.WorldLaws.{is_alive};
 ghost use Rattle.aq_worlds.specs.Playing.{lives, world_of, Gives, HasUnfit, IsSized, StopsFor};
 

@@ -1,4 +1,3 @@
-use Rattle.std.proofs.Common.{◌+◌}
 use Rattle.aq_top.proofs.ReportLemmas.{SoFar}
 use Rattle.aq_top.proofs.judging.print_verdicts.Given as goal
 
