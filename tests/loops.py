@@ -330,6 +330,26 @@ judged(
     ("post", VERIFIED),
 )
 
+# the side of a branch fixes the bit, and the refutation shows it
+judged(
+    "an assertion in a branch on a bit that isn't known",
+    "qubit q; bit c;\n@assert zero\nif (c) {\n@assert one\nx q; }",
+    claims(pre="[|0>]", zero="[|0>]", one="[|1>]", post="all 1"),
+    ("assert line 2", VERIFIED),
+    ("assert line 4", refutation("1", [("0", ONE)], "-", "1", [("0", ONE)])),
+    ("post", VERIFIED),
+    ("post", VERIFIED),
+)
+# cases in order, and the first of them is begun by nothing where the test is true
+judged(
+    "an invariant of several cases that isn't kept",
+    "qubit q; bit c;\n@invariant inv\nwhile (c) { z q; }",
+    claims(pre="[|0>]", inv="[|0>] when c == 0, [|1>], [|0> + |1>] when c == 1, [|0> + i|1>]", post="all 1 when c == 0, [|0> + i|1>]"),
+    ("entry line 3", VERIFIED),
+    ("keep line 3", refutation("1", [("0", ONE), ("1", ONE)], "-", "1", [("0", ONE), ("1", "(-1,0,0,0)/0")])),
+    ("post", VERIFIED),
+)
+
 # ---- bits that aren't known
 
 FORGOTTEN = "qubit q; bit c; bit d;\n@assert zero\n%s"
