@@ -193,6 +193,36 @@ judged(
     ("post", refutation("0", [("0", ONE)], "0", "0", [("1", "(-1,0,0,0)/1")])),
 )
 
+# ---- invariants that are too weak, and what their refutations tell
+
+TRY = "h work; t work; cx work, data; h work; cx work, data; t work; h work;\nfailed = measure work;\n"
+TRIES = "qubit work; qubit kept; qubit data; bit failed;\n" + TRY + "@invariant tried\nwhile (failed) {\nx work;\n" + TRY + "}\n"
+PAIR = "set pair = [|00> + |11>];\nset turned = [|00> + 2i/sqrt2|01> + 2i/sqrt2|10> + |11>];\n"
+# a failed try has the factor (1 + i)/(2 sqrt(2)), which is w/2
+FAILED = refutation("0", [("000", ONE), ("011", ONE)], "1", "1", [("100", "(0,1,0,0)/2"), ("111", "(0,1,0,0)/2")])
+for name, tried, entry in [
+    ("tries", "[|0>] * turned when failed == 0, [|1>] * pair when failed == 1", VERIFIED),
+    ("tries of which one may not fail", "[|0>] * turned when failed == 0", FAILED),
+]:
+    sets = PAIR + claims(pre="[|0>] * pair", tried=tried, post="[|0>] * turned")
+    judged(name, TRIES, sets, ("entry line 5", entry), ("keep line 5", VERIFIED), ("post", VERIFIED))
+judged(
+    "an inner loop that forgets a bit of the outer one",
+    "qubit[2] coin; bit[2] c;\nh coin[0]; c[0] = measure coin[0];\n@invariant first\nwhile (c[0]) {\n"
+    "h coin; c = measure coin;\n@invariant both\nwhile (c[1]) { h coin[1]; c[1] = measure coin[1]; }\n}\n",
+    claims(
+        pre="[|00>]",
+        first="[|00>] when c[0] == 0, [|10>] when c[0] == 1",
+        both="all 1 * [|0>] when c[1] == 0, all 1 * [|1>] when c[1] == 1",
+        post="[|00>]",
+    ),
+    ("entry line 4", VERIFIED),
+    ("entry line 7", VERIFIED),
+    ("keep line 7", VERIFIED),
+    ("keep line 4", refutation("00", [("10", ONE)], "-", "00", [("10", ONE)])),
+    ("post", VERIFIED),
+)
+
 # ---- assertions
 
 judged(
@@ -297,6 +327,26 @@ judged(
     claims(pre="[|0>]", never="[0|0>]", post="[|0>]"),
     ("assert line 3", VERIFIED),
     ("post", VERIFIED),
+    ("post", VERIFIED),
+)
+
+# the side of a branch fixes the bit, and the refutation shows it
+judged(
+    "an assertion in a branch on a bit that isn't known",
+    "qubit q; bit c;\n@assert zero\nif (c) {\n@assert one\nx q; }",
+    claims(pre="[|0>]", zero="[|0>]", one="[|1>]", post="all 1"),
+    ("assert line 2", VERIFIED),
+    ("assert line 4", refutation("1", [("0", ONE)], "-", "1", [("0", ONE)])),
+    ("post", VERIFIED),
+    ("post", VERIFIED),
+)
+# cases in order, and the first of them is begun by nothing where the test is true
+judged(
+    "an invariant of several cases that isn't kept",
+    "qubit q; bit c;\n@invariant inv\nwhile (c) { z q; }",
+    claims(pre="[|0>]", inv="[|0>] when c == 0, [|1>], [|0> + |1>] when c == 1, [|0> + i|1>]", post="all 1 when c == 0, [|0> + i|1>]"),
+    ("entry line 3", VERIFIED),
+    ("keep line 3", refutation("1", [("0", ONE), ("1", ONE)], "-", "1", [("0", ONE), ("1", "(-1,0,0,0)/0")])),
     ("post", VERIFIED),
 )
 

@@ -773,18 +773,23 @@ def outcomes_of(state, qubits, qubit):
             yield outcome, state._replace(vector=primitive(vector))
 
 
+def with_stored(state, bit, outcome):
+    return state if bit is None else state._replace(bits=state.bits[:bit] + (outcome,) + state.bits[bit + 1 :])
+
+
+def with_flip(state, qubits, qubit, outcome):
+    return state._replace(vector=primitive(flipped(state.vector, qubits, qubit))) if outcome else state
+
+
 def played_on(state, qubits, statement, visit):
     """The states behind a statement. Claims that are passed are told to `visit`."""
     kind, parts = statement[0], statement[1:]
     if kind == "gate":
         return {state._replace(vector=primitive(after(state.vector, qubits, *parts)))}
     if kind == "measure":
-        bit = parts[1]
-        stored = lambda bits, outcome: bits if bit is None else bits[:bit] + (outcome,) + bits[bit + 1 :]
-        return {new._replace(bits=stored(new.bits, outcome)) for outcome, new in outcomes_of(state, qubits, parts[0])}
+        return {with_stored(new, parts[1], outcome) for outcome, new in outcomes_of(state, qubits, parts[0])}
     if kind == "reset":
-        flip = lambda vector: primitive(flipped(vector, qubits, parts[0]))
-        return {new._replace(vector=flip(new.vector)) if outcome else new for outcome, new in outcomes_of(state, qubits, parts[0])}
+        return {with_flip(new, qubits, parts[0], outcome) for outcome, new in outcomes_of(state, qubits, parts[0])}
     if kind == "assert":
         visit(parts[0], state)
         return {state}
@@ -829,11 +834,12 @@ def broken(program, sets, turns):
     program = read_program(program)
     claims = asked(program, read_sets(sets)[0])
     lists = {name: [(vectors(expr)[0], conditions) for expr, conditions in cases] for name, cases in claims.items()}
-    start = [vector for listed, conditions in lists[b"pre"] if is_met(conditions, [0] * count_bits(program.registers)) for vector in listed]
-    states = {name: [({primitive(v) for v in listed if not is_zero(v)}, conditions) for listed, conditions in cases] for name, cases in lists.items()}
+    zeros = [0] * count_bits(program.registers)
+    start = [vector for listed, conditions in lists[b"pre"] if is_met(conditions, zeros) for vector in listed]
 
     def visit(name, state):
-        if not any(is_met(conditions, state.bits) and state.vector in allowed for allowed, conditions in states[name]):
+        allowed = [vector for listed, conditions in lists[name] if is_met(conditions, state.bits) for vector in listed]
+        if state.vector not in {primitive(vector) for vector in allowed if not is_zero(vector)}:
             raise Broken(name.decode())
 
     try:
