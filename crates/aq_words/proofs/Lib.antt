@@ -1,0 +1,2 @@
+mod ParserLaws
+mod EntryLaws

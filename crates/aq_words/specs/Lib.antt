@@ -1,0 +1,3 @@
+pub mod Parsers
+pub mod Entries
+pub mod Commands
