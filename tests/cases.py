@@ -12,7 +12,6 @@ USAGE = (
 VERIFIED = "1 post: verified\nverified 1, refuted 0, gave up 0\n"
 GAVE_UP_WIDTH = "1 post: gave up width\nverified 0, refuted 0, gave up 1\n"
 PROGRAM_TOO_LONG = "refused: program: TooLong\n"
-PROGRAM_UNBUILT = "refused: program: Unbuilt\n"
 SETS_TOO_LONG = "refused: sets: TooLong\n"
 GAVE_UP_STEPS = "1 post: gave up steps\nverified 0, refuted 0, gave up 1\n"
 
@@ -245,7 +244,6 @@ case("an empty name", ["check", "", "S"], {"S": BELL_SETS}, "read fault: \n", 5)
 case("a name with a blank", ["check", "my file", "S"], {"my file": BELL, "S": BELL_SETS}, VERIFIED, 0)
 case("one file twice", ["check", "P", "P"], {"P": BELL}, sets_fault(1, 11, "BadByte"), 3)
 case("the program's faults come before the sets are read", ["check", "P", "S"], {"P": ""}, fault(1, 1, "NoQubits"), 3)
-case("the program is unbuilt before the sets are read", ["check", "P", "S"], {"P": "@assert a\nqubit q;"}, PROGRAM_UNBUILT, 3)
 case("the program is refused before the sets are read", ["check", "P", "S"], {"P": "qubit[0] q;"}, "refused: program 1:10: EmptyRegister\n", 3)
 case("a long program is refused before the sets are read", ["check", "P", "S"], {"P": " " * (MOST_PROGRAM + 1)}, PROGRAM_TOO_LONG, 3)
 
@@ -256,7 +254,7 @@ checked("a program too long", padded(BELL, MOST_PROGRAM + 1), BELL_SETS, PROGRAM
 checked("too long comes before what the text says", padded("no program", MOST_PROGRAM + 1), BELL_SETS, PROGRAM_TOO_LONG, 3)
 verified("sets at their longest", BELL, padded(BELL_SETS, MOST_SETS))
 checked("sets too long", BELL, padded(BELL_SETS, MOST_SETS + 1), SETS_TOO_LONG, 3)
-checked("long sets come behind the program", "@assert a\nqubit q;", padded(BELL_SETS, MOST_SETS + 1), PROGRAM_UNBUILT, 3)
+checked("long sets come behind the program", "qubit[0] q;", padded(BELL_SETS, MOST_SETS + 1), fault(1, 10, "EmptyRegister"), 3)
 verified("as many calls as there may be", "qubit[1] q;" + "x q[0];" * MOST_CALLS, claims("|0>", "|0>"))
 checked("one call too many", "qubit[1] q;" + "x q[0];" * (MOST_CALLS + 1), claims("|0>", "|1>"), fault(1, 700012, "TooManyStatements"), 3)
 
@@ -326,8 +324,8 @@ for name, program, line in [
     ("a gate in a capital letter", "qubit[2] q; X q[0];", fault(1, 13, "UnknownGate")),
     ("an unknown gate", "qubit[2] q; hh q[0];", fault(1, 13, "UnknownGate")),
     ("an angle that isn't taken", "qubit q; rx(pi/4) q;", fault(1, 13, "AngleForm")),
-    ("an assertion", "qubit[2] q;\n@assert bell\nh q[0];", PROGRAM_UNBUILT),
-    ("a loop", "qubit[2] q; bit c;\n@invariant one\nwhile (c) { x q; }", PROGRAM_UNBUILT),
+    ("an assertion of no claim", "qubit[2] q;\n@assert bell\nh q[0];", claim_fault("bell", "UnknownClaim")),
+    ("a loop of no claim", "qubit[2] q; bit c;\n@invariant one\nwhile (c) { x q; }", claim_fault("one", "UnknownClaim")),
 ]:
     checked("program: " + name, program, NOTHING_SETS, line, 3)
 

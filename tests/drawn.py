@@ -265,7 +265,7 @@ def drawn_dynamic_program(draw):
 
 def outcomes_of(text):
     """How many measurements and resets a program comes to."""
-    return sum(statement[0] in ("measure", "reset") for statement in plain.inside(language.read(text.encode())[2]))
+    return sum(statement[0] in ("measure", "reset") for statement in plain.inside(language.read(text.encode()).body))
 
 
 def bracket_of(vector, qubits):
@@ -275,9 +275,9 @@ def bracket_of(vector, qubits):
 
 def worlds_from(program, sets, name):
     """The worlds of a program from the vectors of a set."""
-    qubits, registers, body = language.read(program.encode())
+    found = language.read(program.encode())
     start = plain.vectors(set_language.read(sets.encode())[1][name.encode()])[0]
-    return plain.worlds_of(plain.count_bits(registers), qubits, body, [(start, [])])
+    return plain.worlds_from_start(found, start)
 
 
 def cases_of_ends(draw, worlds, qubits, bits):
@@ -325,3 +325,144 @@ def drawn_dynamic(seed):
         after = [drawn_dynamic_case(draw, qubits, bits) for _ in range(draw.randrange(1, 4))]
     sets += "claim pre = %s;\nclaim post = %s;\n" % (", ".join(cases), ",\n  ".join(after))
     return program.encode(), sets.encode(), drawn_outcomes(draw, worlds[0])
+
+
+# ---- programs that loop and assert
+
+# turns of loops by which states at claims are found, and how many states a claim may have
+MOST_TURNS = 6
+MOST_STATES = 8
+LOOP_GATES = ("h", "h", "x", "z", "s", "y", "cx", "cx", "t", "swap")
+
+
+def drawn_loop_gate(draw, qubits):
+    name = draw.choice(LOOP_GATES)
+    spots = draw.sample(range(qubits), min(OPERANDS[name], qubits))
+    return "%s %s;" % (name if len(spots) == OPERANDS[name] else "x", ", ".join("q[%d]" % spot for spot in spots))
+
+
+class Loops:
+    """Draws the text of a program with loops and assertions, whose claims have names and no meaning yet."""
+
+    def __init__(self, draw):
+        self.draw = draw
+        self.qubits = draw.choice((1, 1, 2, 2, 3))
+        self.bits = draw.choice((None, 1, 2, 2, 3))
+        self.claims = 0
+
+    def claim(self):
+        """A new claim, or now and then one that is named already."""
+        if self.claims == 0 or self.draw.randrange(6):
+            self.claims += 1
+            return "c%d" % self.claims
+        return "c%d" % self.draw.randrange(1, self.claims + 1)
+
+    def measurement(self):
+        spot = "q[%d]" % self.draw.randrange(self.qubits)
+        return "%s = measure %s;" % (drawn_bit(self.draw, self.bits), spot) if self.draw.randrange(4) else "reset %s;" % spot
+
+    def body(self, depth, most):
+        return "\n".join(self.step(depth) for _ in range(self.draw.randrange(1, most + 1)))
+
+    def test(self):
+        return self.draw.choice(TESTS) % drawn_bit(self.draw, self.bits)
+
+    def step(self, depth):
+        way = self.draw.randrange(12)
+        if way < 5 or depth == 3:
+            return drawn_loop_gate(self.draw, self.qubits)
+        if way < 7:
+            return self.measurement()
+        if way == 7:
+            return "@assert %s\n%s" % (self.claim(), self.step(depth))
+        if way < 10:
+            claim, test = self.claim(), self.test()
+            return "@invariant %s\nwhile (%s) {\n%s\n}" % (claim, test, self.body(depth + 1, 3))
+        text = "if (%s) {\n%s\n}" % (self.test(), self.body(depth + 1, 2))
+        return text + (" else {\n%s\n}" % self.body(depth + 1, 2) if self.draw.randrange(2) else "")
+
+    def text(self):
+        bits = "bit b;" if self.bits is None else "bit[%d] b;" % self.bits
+        return "qubit[%d] q;\n%s\n%s\n" % (self.qubits, bits, self.body(0, 6))
+
+
+def drawn_start(draw, qubits):
+    """A ket, or a sum of some with small coefficients."""
+    kets = draw.sample(range(2**qubits), draw.choice((1, 1, 1, min(2, 2**qubits), min(3, 2**qubits))))
+    return "[%s]" % " + ".join(draw.choice(("", "", "i", "w^5", "2")) + "|%s>" % format(ket, "0%db" % qubits) for ket in kets)
+
+
+class TooMany(Exception):
+    """A claim would have too many states."""
+
+
+def states_at_claims(text, start):
+    """For each claim the bits and vectors that pass it."""
+    program = language.read(text.encode())
+    found = {name: set() for name in program.claims + [b"post"]}
+
+    def visit(name, state):
+        found[name].add((state.bits, state.vector))
+        if len(found[name]) > MOST_STATES:
+            raise TooMany
+
+    plain.play_program(program, start, MOST_TURNS, visit)
+    return found
+
+
+def spoiled_cases(draw, cases):
+    """The cases with one of them left out, or one of its conditions, or one changed."""
+    cases = list(cases)
+    at = draw.randrange(len(cases))
+    way = draw.randrange(3)
+    if way == 0 and len(cases) > 1:
+        cases.pop(at)
+    elif way == 1:
+        cases[at] = cases[at].split(" when ")[0]
+    else:
+        cases[at] = cases[at].replace("== 0", "== 1", 1) if "== 0" in cases[at] else cases[at].replace("== 1", "== 0", 1)
+    return cases
+
+
+def cases_of_states(draw, states, qubits, bits):
+    """A claim's cases for the states, with all of their bits, or with some left out where that makes no difference."""
+    names = ["b"] if bits is None else ["b[%d]" % place for place in range(bits)]
+    free = [place for place in range(len(names)) if draw.randrange(2) and is_free(states, place)]
+    found = set()
+    for known, vector in states:
+        asked = " and ".join("%s == %d" % (names[place], known[place]) for place in range(len(names)) if place not in free[:1])
+        found.add(bracket_of(vector, qubits) + (" when " + asked if asked else ""))
+    return draw.sample(sorted(found), len(found))
+
+
+def is_free(states, place):
+    """With each state there is the one that differs in this bit alone."""
+    flip = lambda bits: bits[:place] + (1 - bits[place],) + bits[place + 1 :]
+    return all((flip(bits), vector) in states for bits, vector in states)
+
+
+def drawn_looped(seed):
+    """The texts of a program with a loop or an assertion, and of a set file whose claims have the states that pass them."""
+    draw = random.Random(1000003 * seed + 1)
+    while True:
+        loops = Loops(draw)
+        text = loops.text()
+        if loops.claims == 0 or outcomes_of(text) > MOST_OUTCOMES:
+            continue
+        start = drawn_start(draw, loops.qubits)
+        try:
+            listed = plain.vectors(set_language.read(("set a = %s;" % start).encode())[1][b"a"])[0]
+            found = states_at_claims(text, listed)
+            break
+        except (TooMany, plain.Wide):
+            continue
+    lines = ["claim pre = %s;" % start]
+    for name, states in found.items():
+        # what no run passes is claimed of no state, or of any
+        never = ["[0|%s>]" % ("0" * loops.qubits)] if draw.randrange(4) else [drawn_start(draw, loops.qubits)]
+        cases = cases_of_states(draw, states, loops.qubits, loops.bits) if states else never
+        if draw.randrange(4 * len(found)) == 0:
+            cases = spoiled_cases(draw, cases)
+        if draw.randrange(60):
+            lines.append("claim %s = %s;" % (name.decode(), ",\n  ".join(cases)))
+    return text.encode(), "\n".join(lines + [""]).encode()

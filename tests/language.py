@@ -1,17 +1,19 @@
 """A plain slow reader of programs, written from docs/LANGUAGE.md alone: tokens, grammar, and what the names mean.
 
 `read` gives a program, or raises `Refused` with the first fault. It is a recursive descent over tokens that are found by one
-regular expression each; places are counted anew for each token. A program's body is a list of statements, of these forms:
+regular expression each; places are counted anew for each token. A program's claims are names, in the order in which the text
+first has them. Its body is a list of statements, of these forms:
 
     ("gate", name, eighths, controls, target)    the angle in eighths of a turn
     ("measure", qubit, bit)                      the bit is None where the outcome is kept nowhere
     ("reset", qubit)
     ("if", bit, value, yes, no)
-    ("while", bit, value, body)
-    ("assert",)
+    ("while", bit, value, claim, line, body)
+    ("assert", claim, line)
 """
 
 import re
+from collections import namedtuple
 
 from tokens import Token, TokenReader
 
@@ -36,6 +38,10 @@ CONTROLS.update(dict.fromkeys("cx CX cy cz ch cp".split(), 1), ccx=2)
 OPERANDS = {name: count + 1 for name, count in CONTROLS.items()}
 OPERANDS.update(swap=2, cswap=3)
 ANGLED = ("p", "cp", "rx", "ry", "rz")
+
+
+# the number of qubits, the registers of bits with their sizes and bits, the names of claims, and the body
+Program = namedtuple("Program", "qubits registers claims body")
 
 
 class Refused(Exception):
@@ -299,6 +305,7 @@ class Meaning:
     def __init__(self):
         self.names = {}
         self.counts = {True: 0, False: 0}
+        self.claims = []
         self.statements = 0
 
     def program(self, tree, end):
@@ -306,7 +313,7 @@ class Meaning:
         if self.counts[True] == 0:
             raise Refused(end, "NoQubits")
         bits = {name: (size, numbers) for name, (quantum, size, numbers) in self.names.items() if not quantum}
-        return (self.counts[True], bits, body)
+        return Program(self.counts[True], bits, self.claims, body)
 
     def body(self, tree, inside):
         found = []
@@ -316,7 +323,7 @@ class Meaning:
 
     def statement(self, made, inside):
         """What a statement of the text comes to, with the assertions before it."""
-        found = [("assert",)] * self.notes(made)
+        found = self.notes(made)
         kind = made["kind"]
         if inside and kind in ("include", "declare"):
             raise Refused(made["at"], "DeclaredInBlock")
@@ -330,9 +337,9 @@ class Meaning:
         return found
 
     def notes(self, made):
-        """How many assertions stand before the statement."""
-        made["invariant"] = False
-        asserts = 0
+        """The assertions before the statement. An invariant is kept with it."""
+        made["invariant"] = None
+        asserts = []
         for note in made["notes"]:
             text = note.text.split(b"//")[0].strip(b" \t\r\n")
             name = re.match(rb"@([A-Za-z0-9_.]*)", text).group(1)
@@ -341,12 +348,14 @@ class Meaning:
             rest = text[1 + len(name) :].strip(b" \t\r\n")
             stray = not re.fullmatch(rb"[A-Za-z_][A-Za-z0-9_]*", rest)
             if name == b"invariant":
-                stray = stray or made["kind"] != "while" or made["invariant"]
-                made["invariant"] = True
+                stray = stray or made["kind"] != "while" or made["invariant"] is not None
+                made["invariant"] = rest
             else:
-                asserts += 1
+                asserts.append(("assert", rest, note.at[0]))
             if stray:
                 raise Refused(note.at, "StrayAnnotation")
+            if rest not in self.claims:
+                self.claims.append(rest)
         return asserts
 
     def of_include(self, made):
@@ -402,9 +411,9 @@ class Meaning:
         return [(made["kind"], bits[0], value)]
 
     def of_while(self, made):
-        if not made["invariant"]:
+        if made["invariant"] is None:
             raise Refused(made["at"], "MissingInvariant")
-        return self.of_if(made)
+        return [self.of_if(made)[0] + (made["invariant"], made["at"][0])]
 
     def of_call(self, made):
         at, name = made["name"].at, made["name"].text.decode()
@@ -453,5 +462,5 @@ def instance(name, eighths, operands):
 
 
 def read(text):
-    """The number of qubits, the registers of bits with their sizes and bits, and the body."""
+    """The program that a text says."""
     return Meaning().program(*Reader(tokens(text)).program())

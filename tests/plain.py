@@ -2,10 +2,13 @@
 
 It shares nothing with the checker but the definitions: numbers are Python's, of any size; texts are cut by regular
 expressions; a gate is computed entry by entry, and a world holds one vector for each state of its case. `answers` gives what
-may be printed for two texts, each with its status, and `replayed` what is printed for a replay. Programs are read by
-language.py and set files by set_language.py, both whole.
+may be printed for two texts, each with its status, and `replayed` what is printed for a replay. `broken` plays all runs of a
+program and knows nothing of obligations and worlds. Programs are read by language.py and set files by set_language.py, both
+whole.
 """
 
+import itertools
+import math
 import sys
 from collections import namedtuple
 from functools import reduce
@@ -16,6 +19,9 @@ import set_language
 LIMIT = 2**127
 MOST_POWER = 2**32 - 1
 MOST_STEPS = 20000000
+MOST_OBLIGATIONS = 1000
+# statements of all fragments
+MOST_FRAGMENTS = 2000000
 MOST_PROGRAM = 1048576
 MOST_SETS = 4194304
 ZERO = ((0, 0, 0, 0), 0)
@@ -281,23 +287,28 @@ def product(numbers):
     return found
 
 
+def bodies(statement):
+    """The bodies of a branch or a loop."""
+    return {"if": statement[3:], "while": statement[5:]}.get(statement[0], ())
+
+
 def inside(body):
     """All statements of a body, those in branches and loops too."""
     for statement in body:
         yield statement
-        if statement[0] in ("if", "while"):
-            for part in statement[3:]:
-                yield from inside(part)
+        for part in bodies(statement):
+            yield from inside(part)
 
 
-def enough(qubits, body, before, after):
-    """The steps that are enough. A case is an expression and its conditions, of bits and values."""
-    statements = list(inside(body))
+def enough(qubits, owed):
+    """The steps that are enough for an obligation."""
+    statements = list(inside(owed.fragment))
     decisions = sum(statement[0] in ("measure", "reset") for statement in statements)
-    bits = {statement[1] for statement in statements if statement[0] in ("if", "while")}
-    bits |= {bit for _, conditions in before + after for bit, _ in conditions}
-    words = [sum(product(size(expr)[0]) for expr, _ in cases) for cases in (before, after)]
-    weights = sum(size(expr)[1] * product(size(expr)[0]) for expr, _ in before + after)
+    bits = {statement[1] for statement in statements if statement[0] in ("if", "assume")}
+    bits |= {bit for bit, _ in owed.given}
+    bits |= {bit for _, conditions in owed.source + owed.goal for bit, _ in conditions}
+    words = [sum(product(size(expr)[0]) for expr, _ in cases) for cases in (owed.source, owed.goal)]
+    weights = sum(size(expr)[1] * product(size(expr)[0]) for expr, _ in owed.source + owed.goal)
     entries = 2 ** (qubits + 1)
     worlds = 2 ** (decisions + len(bits))
     return 8 * (worlds * words[0] * entries * (len(statements) + 1 + words[1]) + entries * weights)
@@ -337,12 +348,13 @@ def bound(claim, cases, qubits, registers):
     return found
 
 
-def asked(claims, qubits, registers):
-    """The cases of the precondition and of the postcondition."""
-    for name in ("pre", "post"):
-        if name.encode() not in claims:
-            raise refused_claim(name, "UnknownClaim")
-    return [bound(name, claims[name.encode()], qubits, registers) for name in ("pre", "post")]
+def asked(program, claims):
+    """The bound cases of each claim that is asked for, by its name."""
+    names = [b"pre", b"post"] + program.claims
+    for name in names:
+        if name not in claims:
+            raise refused_claim(name.decode(), "UnknownClaim")
+    return {name: bound(name.decode(), claims[name], program.qubits, program.registers) for name in names}
 
 
 def is_met(conditions, bits):
@@ -361,11 +373,70 @@ def is_multiple(left, right):
     return True
 
 
+# ---- what a program owes
+
+# From each state of the source's cases, with bits that meet the given conditions and are all 0 where it is a start, the fragment
+# is to end in the goal. Given is a list of one guard or none.
+Obligation = namedtuple("Obligation", "start source given fragment kind line goal")
+
+
+def has_cut(statement):
+    return statement[0] in ("assert", "while") or any(has_cut(inner) for part in bodies(statement) for inner in part)
+
+
+def first_of(rest):
+    """The first statement of what is left, and what is left behind it. What is left is a body, a place in it and what comes
+    behind it, or nothing."""
+    while rest is not None:
+        body, place, behind = rest
+        if place < len(body):
+            return body[place], (body, place + 1, behind)
+        rest = behind
+    return None, None
+
+
+def obligations(body, claims):
+    """What a program owes, in order. What has been found out of a path: where it began, its fragment so far, what is left of it
+    and its goal. Paths that wait stand in order from the end of the list."""
+    found, weight = [], 0
+    waiting = [((True, claims[b"pre"], []), [], (body, 0, None), ("post", 0, claims[b"post"]))]
+    while waiting:
+        begun, fragment, rest, goal = waiting.pop()
+        while True:
+            statement, rest = first_of(rest)
+            if statement is not None and not has_cut(statement):
+                fragment.append(statement)
+                continue
+            if statement is not None and statement[0] == "if":
+                bit, value, yes, no = statement[1:]
+                waiting.append((begun, fragment + [("assume", bit, 1 - value)], (no, 0, rest), goal))
+                fragment, rest = fragment + [("assume", bit, int(value))], (yes, 0, rest)
+                continue
+            reached = goal
+            if statement is not None:
+                claim, line = statement[-2:] if statement[0] == "assert" else statement[3:5]
+                reached = ("assert" if statement[0] == "assert" else "entry", line, claims[claim])
+            found.append(Obligation(*begun, fragment, *reached))
+            weight += sum(1 for _ in inside(fragment))
+            if len(found) > MOST_OBLIGATIONS or weight > MOST_FRAGMENTS:
+                raise TextRefused("refused: TooManyObligations\n")
+            if statement is None:
+                break
+            fragment, begun = [], (False, claims[claim], [])
+            if statement[0] == "while":
+                bit, value = statement[1:3]
+                waiting.append(((False, claims[claim], [(bit, 1 - value)]), [], rest, goal))
+                begun = (False, claims[claim], [(bit, int(value))])
+                rest, goal = (statement[5], 0, None), ("keep", line, claims[claim])
+    return found
+
+
 # ---- worlds
 
-# All runs of one case that have the same outcomes. There is an end for each state that the case lists; it is None where a
-# gate on the run didn't fit, since no end is known then.
-World = namedtuple("World", "states bits outcomes ends")
+# All runs of one case that have the same outcomes and decisions. A bit is None where it isn't known. There is an end for each
+# state that the case lists; it is None where a gate on the run didn't fit, since no end is known then. A blocked world is one
+# that an assumption left out.
+World = namedtuple("World", "states start bits outcomes ends blocked")
 
 
 def on_ends(world, play):
@@ -379,6 +450,10 @@ def on_ends(world, play):
     return world._replace(ends=ends)
 
 
+def with_value(bits, bit, value):
+    return bits[:bit] + [int(value)] + bits[bit + 1 :]
+
+
 def with_outcome(world, qubits, qubit, outcome):
     world = world._replace(outcomes=world.outcomes + [outcome])
     return on_ends(world, lambda end: projected(end, qubits, qubit, outcome))
@@ -388,7 +463,7 @@ def measured(world, qubits, qubit, bit, outcome):
     world = with_outcome(world, qubits, qubit, outcome)
     if bit is None:
         return world
-    return world._replace(bits=world.bits[:bit] + [outcome] + world.bits[bit + 1 :])
+    return world._replace(bits=with_value(world.bits, bit, outcome))
 
 
 def reset(world, qubits, qubit, outcome):
@@ -396,17 +471,37 @@ def reset(world, qubits, qubit, outcome):
     return on_ends(world, lambda end: flipped(end, qubits, qubit)) if outcome else world
 
 
+def knowing(world, bit, value):
+    """The world in which a bit that wasn't known had the value at the start."""
+    return world._replace(start=with_value(world.start, bit, value), bits=with_value(world.bits, bit, value))
+
+
+def decided(world, bit):
+    """The worlds in which the bit is known."""
+    return [world] if world.bits[bit] is not None else [knowing(world, bit, 0), knowing(world, bit, 1)]
+
+
+def assumed(world, bit, value):
+    if world.bits[bit] is None:
+        return knowing(world, bit, value)
+    return world if world.bits[bit] == value else world._replace(blocked=True)
+
+
 def spread(world, qubits, statement):
-    """What a statement makes of a world: several worlds where it takes an outcome, 0 before 1."""
+    """What a statement makes of a world: several worlds where it takes an outcome or decides a bit, 0 before 1."""
     kind, parts = statement[0], statement[1:]
+    if world.blocked:
+        return [world]
     if kind == "gate":
         return [on_ends(world, lambda end: after(end, qubits, *parts))]
     if kind == "measure":
         return [measured(world, qubits, *parts, outcome) for outcome in (0, 1)]
     if kind == "reset":
         return [reset(world, qubits, *parts, outcome) for outcome in (0, 1)]
+    if kind == "assume":
+        return [assumed(world, *parts)]
     bit, value, yes, no = parts
-    return spread_all(world, qubits, yes if world.bits[bit] == value else no)
+    return [new for old in decided(world, bit) for new in spread_all(old, qubits, yes if old.bits[bit] == value else no)]
 
 
 def spread_all(world, qubits, body):
@@ -416,13 +511,31 @@ def spread_all(world, qubits, body):
     return worlds
 
 
-def worlds_of(bits, qubits, body, before):
-    """In order of the cases, and then of the outcomes. All bits are 0 at the start."""
+def first_world(bits, start, listed, conditions):
+    """The world from which a case's runs begin, or nothing where its conditions contradict each other or the start."""
+    known = [0 if start else None] * bits
+    for bit, value in conditions:
+        if known[bit] not in (None, value):
+            return None
+        known[bit] = int(value)
+    return World(listed, known, known, [], listed, False)
+
+
+def worlds_of(bits, qubits, owed, source):
+    """In order of the cases, and then of decisions. The source has the listed states of each case."""
     worlds = []
-    for listed, conditions in before:
-        if is_met(conditions, [0] * bits):
-            worlds += spread_all(World(listed, [0] * bits, [], listed), qubits, body)
+    for listed, conditions in source:
+        first = first_world(bits, owed.start, listed, conditions + owed.given)
+        worlds += spread_all(first, qubits, owed.fragment) if first else []
+    for bit in sorted({bit for _, conditions in owed.goal for bit, _ in conditions}):
+        worlds = [new for old in worlds for new in (decided(old, bit) if not old.blocked else [old])]
     return worlds
+
+
+def worlds_from_start(program, listed):
+    """The worlds at the end of a program without cuts, from listed states."""
+    owed = Obligation(True, [], [], program.body, "post", 0, [])
+    return worlds_of(count_bits(program.registers), program.qubits, owed, [(listed, [])])
 
 
 def escape(worlds, goal):
@@ -461,39 +574,49 @@ def entries(label, qubits, vector):
     return lines
 
 
-def refutation(bits, qubits, world, state, end):
+def shown(qubits, world, state, end):
+    """The lines of a refutation. A bit that was never known counts as 0."""
+    start, bits = ([bit or 0 for bit in found] for found in (world.start, world.bits))
     return (
-        "1 post: refuted\n  bits %s\n" % digits([0] * bits)
+        "  bits %s\n" % digits(start)
         + entries("  state", qubits, state)
-        + "  outcomes %s\n  end bits %s\n" % (digits(world.outcomes), digits(world.bits))
+        + "  outcomes %s\n  end bits %s\n" % (digits(world.outcomes), digits(bits))
         + entries("  end", qubits, end)
-        + "verified 0, refuted 1, gave up 0\n"
     )
 
 
-def gave_up(why):
-    return "1 post: gave up %s\nverified 0, refuted 0, gave up 1\n" % why, 2
-
-
-def verdicts(bits, qubits, body, before, goal):
-    """What a judge may print. Too many steps come before all else. Where some number of the obligation doesn't fit, it may
-    give up for width; it needn't, where it knows better from numbers that fit."""
-    if MOST_STEPS < enough(qubits, body, before, goal):
-        return [gave_up("steps")]
-    lists = [[(vectors(expr), conditions) for expr, conditions in cases] for cases in (before, goal)]
+def verdicts(bits, qubits, owed):
+    """What a judge may say of an obligation: verified, refuted or gave up, and what is printed behind its head. Too many steps
+    come before all else. Where some number of the obligation doesn't fit, it may give up for width; it needn't, where it knows
+    better from numbers that fit."""
+    if MOST_STEPS < enough(qubits, owed):
+        return [("gave up", " steps\n")]
+    lists = [[(vectors(expr), conditions) for expr, conditions in cases] for cases in (owed.source, owed.goal)]
     is_wide = not all(fits for cases in lists for (_, fits), _ in cases)
-    before, goal = ([(listed, conditions) for (listed, _), conditions in cases] for cases in lists)
-    worlds = worlds_of(bits, qubits, body, before)
+    source, goal = ([(listed, conditions) for (listed, _), conditions in cases] for cases in lists)
+    worlds = worlds_of(bits, qubits, owed, source)
     is_wide = is_wide or any(end is None for world in worlds for end in world.ends)
+    worlds = [world for world in worlds if not world.blocked]
     is_wide = is_wide or any(has_wide_comparison(world, goal) for world in worlds)
-    found = [gave_up("width")] if is_wide else []
+    found = [("gave up", " width\n")] if is_wide else []
     try:
         first = escape(worlds, goal)
     except Wide:
         return found
     if first is None:
-        return found + [("1 post: verified\nverified 1, refuted 0, gave up 0\n", 0)]
-    return found + [(refutation(bits, qubits, *first), 1)]
+        return found + [("verified", "\n")]
+    return found + [("refuted", "\n" + shown(qubits, *first))]
+
+
+def head(number, owed):
+    return "%d post: " % number if owed.kind == "post" else "%d %s line %d: " % (number, owed.kind, owed.line)
+
+
+def report(owed, said):
+    """A report and its status."""
+    text = "".join(head(number, one) + kind + lines for number, (one, (kind, lines)) in enumerate(zip(owed, said), 1))
+    counts = [sum(kind == wanted for kind, _ in said) for wanted in ("verified", "refuted", "gave up")]
+    return text + "verified %d, refuted %d, gave up %d\n" % tuple(counts), 1 if counts[1] else 2 if counts[2] else 0
 
 
 def read_program(text):
@@ -519,26 +642,16 @@ def count_bits(registers):
     return sum(len(bits) for _, bits in registers.values())
 
 
-def has_more_than_gates(program):
-    """Whether a program without a fault has a statement that isn't a gate."""
-    try:
-        _, _, body = read_program(program)
-    except TextRefused:
-        return False
-    return any(statement[0] != "gate" for statement in body)
-
-
 def answers(program, sets):
     """What may be printed by `check` for two texts, each with its status; there is one, but where numbers don't fit."""
     try:
-        qubits, registers, body = read_program(program)
-        if any(statement[0] in ("assert", "while") for statement in inside(body)):
-            raise TextRefused("refused: program: Unbuilt\n")
-        claims, _ = read_sets(sets)
-        before, goal = asked(claims, qubits, registers)
+        read = read_program(program)
+        claims = asked(read, read_sets(sets)[0])
+        owed = obligations(read.body, claims)
     except TextRefused as refused:
         return [(str(refused), 3)]
-    return verdicts(count_bits(registers), qubits, body, before, goal)
+    bits = count_bits(read.registers)
+    return [report(owed, said) for said in itertools.product(*[verdicts(bits, read.qubits, one) for one in owed])]
 
 
 # ---- replay
@@ -605,12 +718,126 @@ def whole_replay(qubits, bits, body, vector, text):
 def replayed(program, sets, name, outcomes=""):
     """What is printed by `replay` for two texts, the name of a set and the outcomes, and the status."""
     try:
-        qubits, registers, body = read_program(program)
-        _, named = read_sets(sets)
-        vector = one_vector(named, name, qubits)
-        bits, end = whole_replay(qubits, count_bits(registers), body, vector, outcomes)
+        read = read_program(program)
+        vector = one_vector(read_sets(sets)[1], name, read.qubits)
+        bits, end = whole_replay(read.qubits, count_bits(read.registers), read.body, vector, outcomes)
     except TextRefused as refused:
         return str(refused), 3
     except ReplayRefused as refused:
         return "refused: replay: %s\n" % refused, 3
-    return "bits %s\n" % digits(bits) + entries("end", qubits, end), 0
+    return "bits %s\n" % digits(bits) + entries("end", read.qubits, end), 0
+
+
+# ---- all runs, with all outcomes and some turns of loops; nothing of worlds and obligations is used here
+
+
+def multiplied(left, right):
+    return tuple(sum(row) for row in rows_of_product((left, 0), (right, 0)))
+
+
+def conjugate(quad, power):
+    """What a number becomes where w is replaced by a power of w, which is odd."""
+    found = [0] * 4
+    for place, coefficient in enumerate(quad):
+        at = place * power % 8
+        found[at % 4] += -coefficient if at >= 4 else coefficient
+    return tuple(found)
+
+
+def primitive(vector):
+    """The multiple of a nonzero vector that is the same for all its multiples: its first entry that isn't zero is a natural
+    number, all entries are sums of powers of w with whole coefficients, and these have no common divisor."""
+    most = max(power for quad, power in vector)
+    quads = []
+    for quad, power in vector:
+        for _ in range(most - power if any(quad) else 0):
+            quad = times_root(quad)
+        quads.append(quad)
+    pivot = next(quad for quad in quads if any(quad))
+    others = reduce(multiplied, [conjugate(pivot, power) for power in (3, 5, 7)])
+    quads = [multiplied(quad, others) for quad in quads]
+    divisor = math.gcd(*(number for quad in quads for number in quad))
+    divisor = divisor if multiplied(pivot, others)[0] > 0 else -divisor
+    return tuple((tuple(number // divisor for number in quad), 0) for quad in quads)
+
+
+# the bits, the vector in its primitive form, and the turns that are left
+State = namedtuple("State", "bits vector turns")
+
+
+def outcomes_of(state, qubits, qubit):
+    """What is left of a state by each outcome that happens."""
+    for outcome in (0, 1):
+        vector = projected(state.vector, qubits, qubit, outcome)
+        if not is_zero(vector):
+            yield outcome, state._replace(vector=primitive(vector))
+
+
+def played_on(state, qubits, statement, visit):
+    """The states behind a statement. Claims that are passed are told to `visit`."""
+    kind, parts = statement[0], statement[1:]
+    if kind == "gate":
+        return {state._replace(vector=primitive(after(state.vector, qubits, *parts)))}
+    if kind == "measure":
+        bit = parts[1]
+        stored = lambda bits, outcome: bits if bit is None else bits[:bit] + (outcome,) + bits[bit + 1 :]
+        return {new._replace(bits=stored(new.bits, outcome)) for outcome, new in outcomes_of(state, qubits, parts[0])}
+    if kind == "reset":
+        flip = lambda vector: primitive(flipped(vector, qubits, parts[0]))
+        return {new._replace(vector=flip(new.vector)) if outcome else new for outcome, new in outcomes_of(state, qubits, parts[0])}
+    if kind == "assert":
+        visit(parts[0], state)
+        return {state}
+    bit, value = parts[:2]
+    if kind == "if":
+        return play_all({state}, qubits, parts[2] if state.bits[bit] == value else parts[3], visit)
+    return play_loop(state, qubits, statement, visit)
+
+
+def play_loop(state, qubits, statement, visit):
+    bit, value, claim, _, body = statement[1:]
+    going, ended = {state}, set()
+    while going:
+        for found in going:
+            visit(claim, found)
+        ended |= {found for found in going if found.bits[bit] != value}
+        turning = {found._replace(turns=found.turns - 1) for found in going if found.bits[bit] == value and found.turns > 0}
+        going = play_all(turning, qubits, body, visit)
+    return ended
+
+
+def play_all(states, qubits, body, visit):
+    for statement in body:
+        states = {new for old in states for new in played_on(old, qubits, statement, visit)}
+    return states
+
+
+def play_program(program, listed, turns, visit):
+    """Plays all runs from the listed states with at most so many turns of loops. What they pass and their ends are told."""
+    bits = (0,) * count_bits(program.registers)
+    starts = {State(bits, primitive(vector), turns) for vector in listed if not is_zero(vector)}
+    for state in play_all(starts, program.qubits, program.body, visit):
+        visit(b"post", state)
+
+
+class Broken(Exception):
+    """A claim doesn't hold for a state that passes it."""
+
+
+def broken(program, sets, turns):
+    """The first claim found that some run breaks, of two texts that are accepted; or nothing."""
+    program = read_program(program)
+    claims = asked(program, read_sets(sets)[0])
+    lists = {name: [(vectors(expr)[0], conditions) for expr, conditions in cases] for name, cases in claims.items()}
+    start = [vector for listed, conditions in lists[b"pre"] if is_met(conditions, [0] * count_bits(program.registers)) for vector in listed]
+    states = {name: [({primitive(v) for v in listed if not is_zero(v)}, conditions) for listed, conditions in cases] for name, cases in lists.items()}
+
+    def visit(name, state):
+        if not any(is_met(conditions, state.bits) and state.vector in allowed for allowed, conditions in states[name]):
+            raise Broken(name.decode())
+
+    try:
+        play_program(program, start, turns, visit)
+    except Broken as found:
+        return str(found)
+    return None

@@ -3,7 +3,7 @@
 Each expected text was worked out by hand from docs/, never taken from what the program printed.
 """
 
-from cases import BELL, BELL_SETS, GAVE_UP_WIDTH, MOST_CALLS, PROGRAM_UNBUILT, VERIFIED, claims, refuted
+from cases import BELL, BELL_SETS, GAVE_UP_WIDTH, MOST_CALLS, VERIFIED, claims, refuted
 from language import FOREIGN
 
 CASES = []
@@ -36,10 +36,6 @@ def refused(fault, at, program, word=""):
     """The program is refused before the sets are read, so there are none."""
     line = "refused: program %s: %s%s\n" % (at, fault, " " + word if word else "")
     CASES.append(("programs: %s at %s of %r" % (fault, at, program[:60]), ["check", "P", "S"], {"P": program}, line, 3))
-
-
-def unbuilt(name, program):
-    CASES.append(("programs: unbuilt: " + name, ["check", "P", "S"], {"P": program}, PROGRAM_UNBUILT, 3))
 
 
 # ---- texts that are taken
@@ -394,19 +390,6 @@ refused("UnknownName", "2:5", "qubit q;\nif (none) qubit r;")
 refused("UnknownName", "2:10", "qubit q; bit c;\nif (c) x r; else y s;")
 refused("UnknownName", "2:20", "qubit q; bit c;\nif (c) x q; else y s;")
 refused("NotTaken", "1:6", "x r; let a = b;", "let")
-
-# ---- statements that aren't built; the sets aren't read, and there are none
-
-unbuilt("a while", "qubit q; bit c;\n@invariant a\nwhile (c == false) { x q; }")
-unbuilt("an assertion", "qubit q;\n@assert a // here\nx q;")
-unbuilt("an assertion of a reserved word", "qubit q;\n@assert if\nx q;")
-unbuilt("an assertion before a declaration", "@assert a\nqubit q;")
-unbuilt("a while at the deepest", "qubit q; bit c; " + "if(c)" * 63 + "\n@invariant a\nwhile (c) x q;")
-unbuilt("an assertion at the deepest", "qubit q; bit c; " + "if(c)" * 64 + "\n@assert a\nx q;")
-unbuilt("an assertion in an else", "qubit q; bit c; measure q -> c; if (c) reset q; else\n@assert a\nx q;")
-unbuilt("a while behind an if", "qubit q; bit c; if (c) { x q; }\n@invariant a\nwhile (c) { }")
-unbuilt("an assertion before nothing", "qubit q; bit c; if (c) {\n@assert a\nbarrier q; }")
-CASES.append(("programs: unbuilt before the sets", ["check", "P", "S"], {"P": "@assert a\nqubit q;", "S": "no sets"}, PROGRAM_UNBUILT, 3))
 
 # ---- examples/: the files as they lie there
 

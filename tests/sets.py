@@ -432,7 +432,6 @@ claim_refused("pre", "BitUnknown", "qubit q; bit[2] c;", claims("all 1 when c ==
 claim_refused("pre", "BitUnknown", "qubit q; bit c;", claims("all 1 when c == 1 and C == 0", "all 1"))
 claim_refused("post", "BitUnknown", "qubit q; bit c;", claims("all 1 when c == 0", "all 1, all 1 when c == 0, all 1 when d == 1"))
 claim_refused("post", "BitUnknown", "qubit q; creg c[3];", claims("all 1", "all 1 when c[0] == 0 and c[3] == 0"))
-CASES.append(("sets: no claim is looked up where the program isn't built", ["check", "P", "S"], {"P": "@assert a\nqubit q;", "S": ""}, "refused: program: Unbuilt\n", 3))
 
 # ---- steps: 8 * 2^(n+1) * (2^U * W * (L + V) + X) are enough, and 20,000,000 are allowed
 

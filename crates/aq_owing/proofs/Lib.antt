@@ -4,3 +4,4 @@ mod WeightLaws
 mod CountRules
 mod OweLaws
 mod MadeLaws
+mod ExampleLaws

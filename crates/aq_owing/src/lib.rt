@@ -11,6 +11,8 @@ mod making;
 mod owe;
 mod part;
 mod place;
+#[cfg(test)]
+mod tests;
 
 pub use asked::{AskedClaims, ObligationFault};
 pub use bind::ask;

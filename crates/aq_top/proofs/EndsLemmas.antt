@@ -14,13 +14,17 @@ use Rattle.aq_obligations.specs.declared.bound.BoundCase.{BoundCase}
 use Rattle.aq_obligations.specs.declared.bound.Obligation.{Obligation}
 use Rattle.aq_sets.specs.declared.sets.Sets.{Sets}
 use Rattle.aq_correct.specs.OwingLaws.{TrueThenCorrect}
+use Rattle.aq_correct.specs.WorldLaws.{WorldsDecide}
 use Rattle.aq_owing.specs.Asking.{Asked, asked}
-use Rattle.aq_owing.specs.Made.{owed_by}
+use Rattle.aq_owing.specs.Made.{obligations_of, owed_by}
 use Rattle.aq_owing.specs.declared.asked.ObligationFault.{ObligationFault}
 use Rattle.aq_prog.specs.Programs.{IsValidProgram}
-use Rattle.aq_parse.specs.declared.tree.Tree.{Tree}
-use Rattle.aq_elab.specs.Elaborated.{elaborated}
+use Rattle.aq_elab.specs.ProgramFaults.{HasProgramFault, IsMemory}
 use Rattle.aq_elab.specs.Texts.{SaysProgram}
+use Rattle.aq_elab.specs.declared.program.ProgramFault.{ProgramFault}
+use Rattle.aq_set_read.specs.Texts.{SaysSets, SetFaultOf}
+use Rattle.aq_set_read.specs.declared.set_fault.SetFault.{SetFault}
+use Rattle.aq_set_read.specs.declared.set_fault.SetFault.TheVariants as set
 use Rattle.aq_prog.specs.declared.program.Program.{Program}
 use Rattle.aq_ring.specs.Fractions.{Amplitude}
 use Rattle.aq_plain.specs.Replaying.{Replays}
@@ -31,19 +35,17 @@ use Rattle.aq_report.specs.Verdicts.{AreJustified}
 use Rattle.aq_report.specs.declared.refusal.Refusal.{Refusal}
 use Rattle.aq_report.specs.declared.refusal.Refusal.TheVariants as refusal
 use Rattle.aq_report.specs.declared.verdict.Verdict.{Verdict}
-use Rattle.aq_elab.proofs.TextsLaws.{one_program}
 use Rattle.aq_top.specs.Check.{CheckWords, CheckCause, CheckEnd, IsReport, ReadsObligations, ReadsTask}
-use Rattle.aq_top.specs.Judging.{EndsWithVerdicts, verdicts_status}
+use Rattle.aq_top.specs.Judging.{AreDecided, EndsWithVerdicts, verdicts_status}
 use Rattle.aq_top.specs.Clauses.{IsAnswer, IsReportOf, StatusSays, TellsTheRun, ToldIsCorrect}
 use Rattle.aq_top.specs.Commands.{Command, Check, Replay, RunEnd}
 use Rattle.aq_top.specs.Ends.{Ends, EndsAs, IsText, StoppedBy, refusal_status, status_of}
 use Rattle.aq_top.specs.Reads.{MayHold}
 use Rattle.aq_top.specs.Replay.{ReplayWords, ReplayCause, ReplayEnd, IsReplay, ReadsStart, begins}
 use Rattle.aq_top.specs.Tasks.{Task, IsTask, owed_in, program_of, task_of}
-use Rattle.aq_top.proofs.ReportLemmas.{all_true}
+use Rattle.aq_top.proofs.ReportLemmas.{all_true, are_decided}
 use Rattle.aq_top.specs.declared.status.Status.{Status}
 use Rattle.aq_top.specs.declared.status.Status.TheVariants as status
-use Rattle.aq_top.proofs.SetsLemmas.{one_sets}
 
 -- ---- ends, whatever the command
 
@@ -79,17 +81,18 @@ EndsAs-says Stopped E Says result written f w m (inr (inr e)) = subst (λ (s : S
 
 -- a report that is said is an end of a check, and so is a refusal
 pub report_end : (told : Option Held) (RF : List ℕ → Type 0) (w : CheckWords) (t : Task) (vs : List Verdict) → ReadsTask told w t
-    → AreJustified w.steps t.program t.sets (owed_in t) vs → (s : Status) (text : List ℕ) → IsText (verdicts_status vs) (report (owed_in t) vs) s text → CheckEnd told RF w s text
-report_end told RF w t vs read justified s text e = inl (record { task = t; read = read; verdicts = vs; justified = justified; status_is = e.0; text_is = e.1 })
+    → AreJustified w.steps t.program t.sets (owed_in t) vs → AreDecided w.steps t.program t.sets (owed_in t) vs → (s : Status) (text : List ℕ) → IsText (verdicts_status vs) (report (owed_in t) vs) s text → CheckEnd told RF w s text
+report_end told RF w t vs read justified decided s text e =
+    inl (record { task = t; read = read; verdicts = vs; justified = justified; decided = decided; status_is = e.0; text_is = e.1 })
 
 -- the report of what was read
 pub loaded_end : {S : Type 0} (sink : SinkMeaning S) (old new : S) (told : Option Held) (RF : List ℕ → Type 0) (w : CheckWords) (p : Program) (s : Sets) (os : List Obligation) (result : Status)
-    → ReadsObligations told w p s os → EndsWithVerdicts sink old new w.steps p s os (report os) result → Ends sink old new (CheckEnd told RF w) result
-loaded_end sink old new told RF w p s os result r e =
+    → WorldsDecide → ReadsObligations told w p s os → EndsWithVerdicts sink old new w.steps p s os (report os) result → Ends sink old new (CheckEnd told RF w) result
+loaded_end sink old new told RF w p s os result law r e =
     let vs = e.verdicts in
     let justified = subst (λ (l : List Obligation). AreJustified w.steps p s l vs) r.owed e.justified in
     Ends-more sink old new (IsText (verdicts_status vs) (report os vs)) (CheckEnd told RF w) result
-    (λ st text h. report_end told RF w (task_of p s r.claims) vs r.read justified st text (subst (λ (l : List Obligation). IsText (verdicts_status vs) (report l vs) st text) r.owed h))
+    (λ st text h. report_end told RF w (task_of p s r.claims) vs r.read justified (are_decided w.steps p s law (obligations_of p r.claims) vs justified) st text (subst (λ (l : List Obligation). IsText (verdicts_status vs) (report l vs) st text) r.owed h))
     e.ends
 
 pub refused_end : (told : Option Held) (RF : List ℕ → Type 0) (w : CheckWords) (r : Refusal) → CheckCause told RF w r
@@ -190,6 +193,16 @@ answer_says told RF WF words status.Refuted text a x = x
 answer_says told RF WF words status.GaveUp text a x = x
 answer_says told RF WF words _ text a x = absurd a
 
+-- ---- what texts say
+
+-- a text says one program or one fault, and one list of sets or one fault
+pub record TextLaws : Type 0 where
+  pub program : (text : List ℕ) (p q : Program) → SaysProgram text p → SaysProgram text q → p ≡ q
+  pub no_program : (text : List ℕ) (p : Program) (f : ProgramFault) → SaysProgram text p → HasProgramFault text f → (IsMemory f → ⊥) → ⊥
+  pub valid : (text : List ℕ) (p : Program) → SaysProgram text p → IsValidProgram p
+  pub sets : (text : List ℕ) (a b : Sets) → SaysSets text a → SaysSets text b → a ≡ b
+  pub no_sets : (text : List ℕ) (a : Sets) (f : SetFault) → SaysSets text a → SetFaultOf text f → (f ≡ set.Memory → ⊥) → ⊥
+
 -- ---- a good report
 
 -- it has no verdict of another kind
@@ -205,32 +218,28 @@ asked_is : (x y : Asked) → ◌≡◌ {A = Result Asked ObligationFault} (Ok x)
 asked_is x y e = cc
 
 -- two texts say one task
-one_task : (p q pre post : List ℕ) (s t : Task) → IsTask p q pre post s → IsTask p q pre post t → s ≡ t
-one_task p q pre post s t x y =
-    let program : s.program ≡ t.program = one_program p s.program t.program x.program_is y.program_is in
-    let sets : s.sets ≡ t.sets = one_sets q s.sets t.sets x.sets_are y.sets_are in
+one_task : TextLaws → (p q pre post : List ℕ) (s t : Task) → IsTask p q pre post s → IsTask p q pre post t → s ≡ t
+one_task laws p q pre post s t x y =
+    let program : s.program ≡ t.program = laws.program p s.program t.program x.program_is y.program_is in
+    let sets : s.sets ≡ t.sets = laws.sets q s.sets t.sets x.sets_are y.sets_are in
     same_task s t program sets (asked_is s.claims t.claims (sym x.claims_are ∙ ap₂ (λ a b. asked a b pre post) program sets ∙ y.claims_are))
 
--- what elaboration gives is valid, and true obligations make a program correct
-abbrev pub GivesValid : Type 0
-GivesValid = (tree : Tree) (p : Program) → elaborated tree ≡ Ok p → IsValidProgram p
-
 -- a program that meets its obligations is correct
-task_correct : (limit : ℕ) (t : Task) (text : List ℕ) (vs : List Verdict) → GivesValid → TrueThenCorrect BoundCase → SaysProgram text t.program
+task_correct : (limit : ℕ) (t : Task) (text : List ℕ) (vs : List Verdict) → TextLaws → TrueThenCorrect BoundCase → SaysProgram text t.program
     → AreJustified limit t.program t.sets (owed_in t) vs → status.Good ≡ verdicts_status vs → IsCorrect (program_of t)
-task_correct limit t text vs valid law says fine good =
+task_correct limit t text vs laws law says fine good =
     let tests = all_good (list_any is_refuted vs) (list_any is_given_up vs) good in
     let p = t.program in
     let a = t.claims in
     law.correct p.qubits p.bits (length p.claims) (case_of t.sets) (products_in t.sets) a.claims a.before a.after p.body
-    (valid says.tree p says.meaning).body (all_true limit p t.sets (owed_by p a) vs fine tests.0 tests.1)
+    (laws.valid text p says).body (all_true limit p t.sets (owed_by p a) vs fine tests.0 tests.1)
 
-told_task : (told : Option Held) (held : Held) (w : CheckWords) (s t : Task) → told ≡ Some held → ReadsTask told w s
+told_task : TextLaws → (told : Option Held) (held : Held) (w : CheckWords) (s t : Task) → told ≡ Some held → ReadsTask told w s
     → IsTask (bytes_at held w.program) (bytes_at held w.sets) w.pre w.post t → s ≡ t
-told_task told held w s t e read says =
+told_task laws told held w s t e read says =
     let program : read.program ≡ bytes_at held w.program = subst (λ (o : Option Held). MayHold o w.program read.program) e read.program_held in
     let sets : read.sets ≡ bytes_at held w.sets = subst (λ (o : Option Held). MayHold o w.sets read.sets) e read.sets_held in
-    one_task (bytes_at held w.program) (bytes_at held w.sets) w.pre w.post s t
+    one_task laws (bytes_at held w.program) (bytes_at held w.sets) w.pre w.post s t
     (subst (λ (b : List ℕ). IsTask b (bytes_at held w.sets) w.pre w.post s) program (subst (λ (b : List ℕ). IsTask read.program b w.pre w.post s) sets read.says)) says
 
 some_is : (x y : CheckWords) → ◌≡◌ {A = Option Command} (Some (Check x)) (Some (Check y)) → x ≡ y
@@ -240,15 +249,15 @@ no_check : (v : ReplayWords) (w : CheckWords) → ◌≡◌ {A = Option Command}
 no_check v w e = cc
 
 -- and its program is correct
-pub report_is_correct : (told : Option Held) (words : Option Command) (text : List ℕ) → GivesValid → TrueThenCorrect BoundCase → IsReportOf told words status.Good text → ToldIsCorrect told words
-report_is_correct told None text valid law r = absurd r
-report_is_correct told (Some (Replay v)) text valid law r = λ held w t told_is words_are says. absurd (no_check v w words_are)
-report_is_correct told (Some (Check v)) text valid law r = λ held w t told_is words_are says.
+pub report_is_correct : (told : Option Held) (words : Option Command) (text : List ℕ) → TextLaws → TrueThenCorrect BoundCase → IsReportOf told words status.Good text → ToldIsCorrect told words
+report_is_correct told None text laws law r = absurd r
+report_is_correct told (Some (Replay v)) text laws law r = λ held w t told_is words_are says. absurd (no_check v w words_are)
+report_is_correct told (Some (Check v)) text laws law r = λ held w t told_is words_are says.
     let same : v ≡ w = some_is v w words_are in
     let read : ReadsTask told w r.task = subst (λ (x : CheckWords). ReadsTask told x r.task) same r.read in
-    let task : r.task ≡ t = told_task told held w r.task t told_is read says in
+    let task : r.task ≡ t = told_task laws told held w r.task t told_is read says in
     subst (λ (x : Task). IsCorrect (program_of x)) task
-    (task_correct v.steps r.task r.read.program r.verdicts valid law r.read.says.program_is r.justified r.status_is)
+    (task_correct v.steps r.task r.read.program r.verdicts laws law r.read.says.program_is r.justified r.status_is)
 
 -- ---- a replay
 

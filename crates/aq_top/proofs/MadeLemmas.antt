@@ -1,5 +1,5 @@
 -- Obligations that were made: their claims, and that they are few.
-use Rattle.std.proofs.Common.{◌≡◌, ℕ, suc, ◌≤◌, Bool, true, false, ◌||◌, nat_lt, List, [], ◌∷◌, length, map, Option, Result, Ok, Err, refl, ap, sym, ◌∙◌, subst, arith, inl, inr, ◌⊎◌}
+use Rattle.std.proofs.Common.{◌≡◌, ℕ, suc, ◌≤◌, Bool, true, false, ◌||◌, nat_lt, List, [], ◌∷◌, length, map, Option, Ok, Err, refl, ap, sym, subst, arith}
 use Rattle.std.proofs.lemmas.Bool.Decides.{nat_tests}
 use Rattle.aq_base.specs.Checks.{refuse_if, ◌>>=◌, ◌>>◌}
 use Rattle.aq_base.specs.Limits.{most_fragment_statements, most_obligations}
@@ -10,7 +10,6 @@ use Rattle.aq_obligations.specs.declared.bound.BoundCase.{BoundCase}
 use Rattle.aq_obligations.specs.declared.bound.Obligation.{Obligation}
 use Rattle.aq_owing.specs.Asking.{Asked, Checked, asked}
 use Rattle.aq_owing.specs.Made.{are_too_many, fragment_statements, made, made_obligations, obligations_of, owed_by}
-use Rattle.aq_owing.specs.declared.asked.ObligationFault.{ObligationFault}
 use Rattle.aq_owing.specs.declared.asked.ObligationFault.TheVariants as faults
 use Rattle.aq_world.specs.Held.{Held}
 use Rattle.aq_top.specs.Check.{CheckWords, ReadsObligations}

@@ -10,7 +10,9 @@ use Rattle.aq_prog.specs.declared.program.Program.{Program}
 use Rattle.aq_sets.specs.declared.sets.Sets.{Sets}
 use Rattle.aq_obligations.specs.Asking.{case_of, meaning_of, products_in}
 use Rattle.aq_obligations.specs.Enough.{enough}
-use Rattle.aq_obligations.specs.Obligations.{IsTrueOf}
+use Rattle.aq_obligations.specs.Obligations.{IsTrueOf, Meaning}
+use Rattle.aq_obligations.specs.Wide.{IsWide}
+use Rattle.aq_correct.specs.WorldLaws.{WorldsDecide}
 use Rattle.aq_obligations.specs.Owing.{Owed, obligation_of}
 use Rattle.aq_obligations.specs.declared.bound.BoundCase.{BoundCase}
 use Rattle.aq_obligations.specs.declared.bound.Obligation.{Obligation}
@@ -20,11 +22,11 @@ use Rattle.aq_world.specs.Sinks.{SinkMeaning}
 use Rattle.aq_world.specs.declared.sink.SinkFault.{SinkFault}
 use Rattle.aq_world.proofs.PrintsLemmas.{Prints-none, Prints-then, Prints-stops}
 use Rattle.aq_report.specs.Texts.{verdict_text, lines_from, counts_text, report, is_verified, is_refuted, is_given_up}
-use Rattle.aq_report.specs.Verdicts.{AreJustified, IsJustified}
+use Rattle.aq_report.specs.Verdicts.{AreJustified, IsJustified, shown_by}
 use Rattle.aq_report.specs.declared.verdict.Verdict.{Verdict}
 use Rattle.aq_report.specs.declared.verdict.Verdict.TheVariants as verdict
 use Rattle.aq_report.specs.declared.verdict.Why.TheVariants as why
-use Rattle.aq_top.specs.Judging.{IsTally, PrintsVerdicts, verdicts_status}
+use Rattle.aq_top.specs.Judging.{AreDecided, Decides, IsTally, PrintsVerdicts, verdicts_status}
 use Rattle.aq_top.specs.declared.judging.Tally.{Tally}
 use Rattle.aq_top.specs.declared.status.Status.{Status}
 use Rattle.aq_top.specs.declared.status.Status.TheVariants as status
@@ -94,6 +96,21 @@ module _ (limit : ℕ) (p : Program) (s : Sets) where
       All-cons (λ d. IsTrueOf (obligation_of p.qubits p.bits (case_of s) (products_in s) d)) d ds f.0 (all_true ds vs f.1 r g)
   all_true (d ∷ ds) (verdict.Refuted x ∷ vs) f r g = absurd (cc r)
   all_true (d ∷ ds) (verdict.GaveUp x ∷ vs) f r g = absurd (cc g)
+
+-- ---- what is decided
+
+decides : (limit most : ℕ) (o : Meaning) (law : WorldsDecide) (v : Verdict) → IsJustified limit most o v → most ≤ limit → (IsWide o → ⊥) → Decides o v
+decides limit most o law verdict.Verified j h n = j
+decides limit most o law (verdict.Refuted r) j h n = law.not_both o (shown_by r) j.counterexample
+decides limit most o law (verdict.GaveUp why.Width) j h n = n j
+decides limit most o law (verdict.GaveUp why.Steps) j h n = omega (arith, j, h)
+decides limit most o law (verdict.GaveUp why.Memory) j h n = tt
+
+pub are_decided : (limit : ℕ) (p : Program) (s : Sets) (law : WorldsDecide) (os : List Obligation) (vs : List Verdict) → AreJustified limit p s os vs → AreDecided limit p s os vs
+are_decided limit p s law [] vs f = tt
+are_decided limit p s law (o ∷ os) [] f = tt
+are_decided limit p s law (o ∷ os) (v ∷ vs) f =
+    (decides limit (enough p s o) (meaning_of p s o) law v f.0, are_decided limit p s law os vs f.1)
 
 -- ---- counts
 

@@ -16,7 +16,7 @@ use Rattle.aq_report.specs.declared.refusal.Refusal.{Refusal}
 use Rattle.aq_report.specs.declared.refusal.Refusal.TheVariants as refusal
 use Rattle.aq_report.specs.declared.verdict.Verdict.{Verdict}
 use Rattle.aq_top.specs.Ends.{IsRefused}
-use Rattle.aq_top.specs.Judging.{verdicts_status}
+use Rattle.aq_top.specs.Judging.{AreDecided, verdicts_status}
 use Rattle.aq_top.specs.Reads.{MayHold, ReadsProgram, ReadsSets, ProgramCause, SetsCause}
 use Rattle.aq_top.specs.Tasks.{Task, IsTask, owed_in, task_of}
 use Rattle.aq_top.specs.declared.check.CheckWords.{CheckWords as GivenWords}
@@ -99,12 +99,14 @@ CheckCause told ReadFailed words refused =
 
 -- ---- ends
 
--- The text is the report of justified verdicts on what the files say, one for each obligation.
+-- The text is the report of justified verdicts on what the files say, one for each obligation. Each decides its obligation where
+-- the limit is enough and no number is too wide.
 pub record IsReport (told : Option Held) (words : CheckWords) (result : Status) (text : List ℕ) : Type 0 where
   pub task : Task
   pub read : ReadsTask told words task
   pub verdicts : List Verdict
   pub justified : AreJustified words.steps task.program task.sets (owed_in task) verdicts
+  pub decided : AreDecided words.steps task.program task.sets (owed_in task) verdicts
   pub status_is : result ≡ verdicts_status verdicts
   pub text_is : text ≡ report (owed_in task) verdicts
 

@@ -1,5 +1,6 @@
 -- The sentences of the top call's contract.
-use Rattle.std.specs.Prelude.{◌≡◌, ℕ, List, Option, Some, None, ◌⊎◌}
+use Rattle.std.specs.Prelude.{◌≡◌, ℕ, ◌≤◌, List, length, Option, Some, None, ◌⊎◌}
+use Rattle.aq_base.specs.Limits.{most_program_bytes, most_sets_bytes}
 use Rattle.std.specs.Io.KnownBytes.{Appends}
 use Rattle.aq_world.specs.Held.{Held, bytes_at}
 use Rattle.aq_obligations.specs.Correct.{IsCorrect}
@@ -33,6 +34,26 @@ Reports told words before after result =
 abbrev pub ToldIsCorrect : Option Held → Option Command → Type 0
 ToldIsCorrect told words = (held : Held) (w : CheckWords) (t : Task) → told ≡ Some held → words ≡ Some (Check w)
     → IsTask (bytes_at held w.program) (bytes_at held w.sets) w.pre w.post t → IsCorrect (program_of t)
+
+-- The words ask for a check of two told files that aren't too long, and these are accepted: they say a program, sets and the
+-- claims that are asked, and there aren't too many obligations.
+pub record AsksToCheck (told : Option Held) (words : Option Command) : Type 0 where
+  pub held : Held
+  pub files : CheckWords
+  pub told_is : told ≡ Some held
+  pub words_are : words ≡ Some (Check files)
+  pub program_fits : length (bytes_at held files.program) ≤ most_program_bytes
+  pub sets_fit : length (bytes_at held files.sets) ≤ most_sets_bytes
+  pub task : Task
+  pub says : IsTask (bytes_at held files.program) (bytes_at held files.sets) files.pre files.post task
+
+-- a report, or want of memory
+abbrev pub IsJudged : Status → Type 0
+IsJudged status.Good = Unit {0}
+IsJudged status.Refuted = Unit {0}
+IsJudged status.GaveUp = Unit {0}
+IsJudged status.Memory = Unit {0}
+IsJudged _ = ⊥
 
 -- Where the words ask for a replay, the sink's bytes grew by the text of the end of the run: of the program that the one
 -- file says, from the one vector of the set that is named of those that the other says, all bits 0, with the outcomes asked

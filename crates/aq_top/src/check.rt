@@ -25,6 +25,7 @@ use crate::read::{load_program, load_sets};
 use crate::say::say_refusal;
 use crate::status::Status;
 use aq_base::MOST_STEPS;
+use aq_correct::laws::worlds;
 use aq_obligations::Obligation;
 use aq_owing::{ObligationFault, make};
 use aq_prog::Program;
@@ -145,6 +146,7 @@ pub(crate) fn check<S: Shelf, K: Sink>(
         (ReadFailedOf S.meaning shelf.old shelf.new) (check_asked words.entry)) result }
     ensures held { S.meaning.holds shelf.new ≡ S.meaning.holds shelf.old }
 {
+    worlds();
     match load(alloc, words, shelf) {
         Ok(loaded) => say_report(alloc, &loaded, words.steps, out),
         Err(refusal) => say_refusal(out, &refusal),

@@ -159,12 +159,7 @@ fn report_status(printed: Result<Tally, SinkFault>) -> Status
 }
 
 /// Judges the obligations in order and says the report.
-pub(crate) fn say_report<K: Sink>(
-    alloc: Global,
-    loaded: &Loaded,
-    steps: u64,
-    out: &mut K,
-) -> Status
+pub(crate) fn say_report<K: Sink>(alloc: Global, loaded: &Loaded, steps: u64, out: &mut K) -> Status
     requires program { IsValidProgram loaded.now.program }
     requires sets { IsValidSets loaded.now.sets }
     requires told { loaded.now.sizes ≡ capped_sizes loaded.now.sets.exprs }

@@ -60,7 +60,7 @@ fn answer(alloc: Global, program: &[u8], sets: &[u8]) -> Result<(Status, Text), 
 #[test]
 fn reports(rt: HostRuntime) -> Result<(), Fail> {
     let alloc = rt.alloc();
-    let rows: [(&[u8], &[u8], &[u8], u8); 13] = [
+    let rows: [(&[u8], &[u8], &[u8], u8); 16] = [
         (
             BELL,
             PLUS,
@@ -141,6 +141,30 @@ fn reports(rt: HostRuntime) -> Result<(), Fail> {
             b"1 post: gave up width\nverified 0, refuted 0, gave up 1\n",
             2,
         ),
+        // An outcome that is followed.
+        (
+            b"qubit[1] q; bit c; c = measure q[0];",
+            b"claim pre = [|0> + |1>]; claim post = [|0>] when c == 0;",
+            b"1 post: refuted\n  bits 0\n  state |0> (1,0,0,0)/0\n  state |1> (1,0,0,0)/0\n  outcomes 1\n  \
+            end bits 1\n  end |1> (1,0,0,0)/0\nverified 0, refuted 1, gave up 0\n",
+            1,
+        ),
+        // A loop: its claim as it is met, again after each turn, and what is behind.
+        (
+            b"qubit[1] q;\nbit c;\nh q[0];\nc = measure q[0];\n@invariant inv\nwhile (c) { x q[0]; h q[0]; c = measure q[0]; }",
+            b"claim pre = [|0>]; claim inv = [|0>] when c == 0, [|1>] when c == 1; claim post = [|0>];",
+            b"1 entry line 6: verified\n2 keep line 6: verified\n3 post: verified\n\
+            verified 3, refuted 0, gave up 0\n",
+            0,
+        ),
+        // Behind an assertion each bit has either value.
+        (
+            b"qubit q;\nbit c;\n@assert zero\nx q;",
+            b"claim pre = [|0>]; claim zero = [|0>]; claim post = [|1>] when c == 0;",
+            b"1 assert line 3: verified\n2 post: refuted\n  bits 1\n  state |0> (1,0,0,0)/0\n  outcomes -\n  \
+            end bits 1\n  end |1> (1,0,0,0)/0\nverified 1, refuted 1, gave up 0\n",
+            1,
+        ),
         (
             b"qubit[16] q; x q;",
             b"claim pre = all 16; claim post = all 16;",
@@ -159,7 +183,7 @@ fn reports(rt: HostRuntime) -> Result<(), Fail> {
 #[test]
 fn refusals(rt: HostRuntime) -> Result<(), Fail> {
     let alloc = rt.alloc();
-    let rows: [(&[u8], &[u8]); 15] = [
+    let rows: [(&[u8], &[u8]); 12] = [
         (b"qubit q;\n\xff", b"refused: program 2:1: NotUtf8\n"),
         (b"qubit q;\n x #q;", b"refused: program 2:4: BadByte\n"),
         (b"qubit q; /* x q;", b"refused: program 1:10: OpenComment\n"),
@@ -181,18 +205,6 @@ fn refusals(rt: HostRuntime) -> Result<(), Fail> {
         ),
         (b"qubit[17] q;", b"refused: program 1:11: TooManyQubits\n"),
         (b"", b"refused: program 1:1: NoQubits\n"),
-        (
-            b"qubit q; bit c; measure q -> c;",
-            b"refused: program: Unbuilt\n",
-        ),
-        (
-            b"qubit q; bit c; if (c == 1) x q;",
-            b"refused: program: Unbuilt\n",
-        ),
-        (
-            b"qubit q;\n@assert one\nx q;",
-            b"refused: program: Unbuilt\n",
-        ),
     ];
     for (row, (program, wanted)) in rows.iter().enumerate() {
         let (status, bytes) = answer(alloc, program, PLUS)?;
@@ -325,16 +337,16 @@ fn a_second_read_that_fails(rt: HostRuntime) -> Result<(), Fail> {
 }
 
 #[test]
-fn sets_are_not_read_behind_a_program_that_is_unbuilt(rt: HostRuntime) -> Result<(), Fail> {
+fn sets_are_not_read_behind_a_program_that_is_refused(rt: HostRuntime) -> Result<(), Fail> {
     let alloc = rt.alloc();
-    let mut shelf = failing_shelf(alloc, b"qubit q; reset q;")?;
+    let mut shelf = failing_shelf(alloc, b"qubit q")?;
     let mut out = HonestSink {
         bytes: Text::new(alloc),
     };
     assert_eq!(rt; check_by(alloc, &mut shelf, &mut out)?, Status::Refused);
     assert_eq!(rt;
         out.bytes.as_slice(),
-        b"refused: program: Unbuilt\n".as_slice()
+        b"refused: program 1:8: Unexpected\n".as_slice()
     );
     assert_eq!(rt; shelf.calls, 1);
     Ok(())

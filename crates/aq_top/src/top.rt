@@ -1,7 +1,7 @@
 ghost use Rattle.std.specs.Prelude.{◌≡◌, map, None, Some};
 ghost use Rattle.std.specs.String.{string_bytes};
 ghost use Rattle.aq_world.specs.Causes.{Rose};
-ghost use Rattle.aq_top.specs.Clauses.{IsAnswer, Reports, ToldIsCorrect, TellsTheRun, ReadsFailed};
+ghost use Rattle.aq_top.specs.Clauses.{AsksToCheck, IsAnswer, IsJudged, Reports, ToldIsCorrect, TellsTheRun, ReadsFailed};
 ghost use Rattle.aq_top.specs.Commands.{IsInRange, RunEnd, command_asked, command_of};
 ghost use Rattle.aq_top.specs.Ends.{Ends};
 ghost use Rattle.aq_top.specs.Reads.{ReadFailedOf};
@@ -12,7 +12,8 @@ use crate::replay::replay;
 use crate::say::say_usage;
 use crate::status::Status;
 use aq_correct::laws::obligations;
-use aq_elab::elaborations;
+use aq_elab::program_texts;
+use aq_set_read::set_files;
 use aq_world::{Shelf, Sink};
 use std::alloc::Global;
 
@@ -61,6 +62,13 @@ pub fn run<S: Shelf, K: Sink>(alloc: Global, words: &[String], shelf: &mut S, ou
     ensures all_verified_implies_correct { result ≡ Status.Good
         → ToldIsCorrect (S.meaning.holds shelf.old) (command_asked (map string_bytes words.now)) }
 
+    // Where both files are told and accepted and neither a read nor a write fails, the answer is a report, or memory ran
+    // out.
+    ensures accepted_files_are_judged { AsksToCheck (S.meaning.holds shelf.old)
+        (command_asked (map string_bytes words.now))
+        → (Rose (S.meaning.faults shelf.old) (S.meaning.faults shelf.new) → ⊥)
+        → (Rose (K.meaning.faults out.old) (K.meaning.faults out.new) → ⊥) → IsJudged result }
+
     // With Good, a replay wrote the end of the run.
     ensures replay_is_the_run { result ≡ Status.Good → TellsTheRun (S.meaning.holds shelf.old)
         (command_asked (map string_bytes words.now)) (K.meaning.told out.old) (K.meaning.told out.new) }
@@ -77,7 +85,8 @@ pub fn run<S: Shelf, K: Sink>(alloc: Global, words: &[String], shelf: &mut S, ou
     // No file changes.
     ensures shelf_stays { S.meaning.holds shelf.new ≡ S.meaning.holds shelf.old }
 {
-    elaborations();
+    program_texts();
+    set_files();
     obligations();
     answer(alloc, words, shelf, out)
 }

@@ -5,7 +5,7 @@ use Rattle.aq_top.proofs.check.check.Goals as goal
 pub returns-in-Ok-clause-ends : goal.returns-in-Ok-clause-ends
 returns-in-Ok-clause-ends g c =
     let failed = ReadFailedOf g.S.Shelf.meaning c.args.shelf.now c.load.new.shelf in
-    loaded_end _ _ _ _ failed _ _ _ _ _ c.in-Ok.ensures.read c.say_report.ensures
+    loaded_end _ _ _ _ failed _ _ _ _ _ c.worlds.ensures.decide c.in-Ok.ensures.read c.say_report.ensures
 
 pub returns-in-Err-clause-ends : goal.returns-in-Err-clause-ends
 returns-in-Err-clause-ends g c =

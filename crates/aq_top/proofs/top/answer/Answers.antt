@@ -1,7 +1,7 @@
 use Rattle.aq_top.proofs.top.answer.Goals as goal
 
 pub returns-in-Some-clause-ends : goal.returns-in-Some-clause-ends
-returns-in-Some-clause-ends g c = rw (← c.in-Some.ensures) c.obey.ensures.ends
+returns-in-Some-clause-ends g c = rw (← c.in-Some.ensures.command) c.obey.ensures.ends
 
 pub returns-in-None-clause-ends : goal.returns-in-None-clause-ends
-returns-in-None-clause-ends g c = rw (← c.in-None.ensures) c.say_usage.ensures
+returns-in-None-clause-ends g c = rw (← c.in-None.ensures.command) c.say_usage.ensures

@@ -1,4 +1,5 @@
-use Rattle.aq_top.proofs.EndsLemmas.{status_says, at_status, answer_says, replay_tells, report_is_correct}
+use Rattle.aq_top.proofs.AcceptedLemmas.{accepted_judged}
+use Rattle.aq_top.proofs.EndsLemmas.{TextLaws, status_says, at_status, answer_says, replay_tells, report_is_correct}
 use Rattle.aq_top.proofs.top.run.Goals as goal
 
 pub returns-clause-report_is_justified : goal.returns-clause-report_is_justified
@@ -9,7 +10,14 @@ returns-clause-report_is_justified g c answer =
 pub returns-clause-all_verified_implies_correct : goal.returns-clause-all_verified_implies_correct
 returns-clause-all_verified_implies_correct g c good =
     let says = status_says _ _ _ _ _ _ _ c.answer.ensures.ends in
-    report_is_correct _ _ _ c.elaborations.ensures.valid c.obligations.ensures.correct (at_status _ _ _ _ _ _ _ good says.2)
+    report_is_correct _ _ _
+    (record {
+      program = c.program_texts.ensures.one;
+      no_program = c.program_texts.ensures.apart;
+      valid = c.program_texts.ensures.valid;
+      sets = c.set_files.ensures.sets;
+      no_sets = c.set_files.ensures.apart;
+    }) c.obligations.ensures.correct (at_status _ _ _ _ _ _ _ good says.2)
 
 pub returns-clause-replay_is_the_run : goal.returns-clause-replay_is_the_run
 returns-clause-replay_is_the_run g c good =
@@ -30,3 +38,14 @@ pub returns-clause-write_has_its_cause : goal.returns-clause-write_has_its_cause
 returns-clause-write_has_its_cause g c write =
     let says = status_says _ _ _ _ _ _ _ c.answer.ensures.ends in
     at_status _ _ _ _ _ _ _ write says.2
+
+pub returns-clause-accepted_files_are_judged : goal.returns-clause-accepted_files_are_judged
+returns-clause-accepted_files_are_judged g c asks no_read no_write =
+    let laws : TextLaws = record {
+      program = c.program_texts.ensures.one;
+      no_program = c.program_texts.ensures.apart;
+      valid = c.program_texts.ensures.valid;
+      sets = c.set_files.ensures.sets;
+      no_sets = c.set_files.ensures.apart;
+    } in
+    accepted_judged _ _ _ laws _ _ _ _ c.answer.ensures.ends asks (λ name h. no_read h.0) no_write

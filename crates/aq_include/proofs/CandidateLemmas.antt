@@ -1,0 +1,140 @@
+-- Lists of candidates grow, and are thinned.
+use Rattle.std.proofs.Common.{◌≡◌, ℕ, zero, suc, ◌+◌, ◌*◌, ◌<◌, ◌≤◌, inl, inr, List, [], ◌∷◌, ◌++◌, length, slice_get, Some, Contains, refl, sym, ap, subst, ◌∙◌, arith, sum_by}
+use Rattle.std.specs.List.Sorted.{IsPermutation}
+use Rattle.std.proofs.Math.Nat.{mul-le-mul_right}
+use Rattle.std.proofs.lemmas.Bool.{cases_lt}
+use Rattle.std.proofs.lemmas.List.Sums.{sum_by_push}
+use Rattle.std.proofs.lemmas.List.Sorted.{IsPermutation-sym, Contains-permutation, sum_by-IsPermutation}
+use Rattle.std.proofs.lemmas.Option.{slice_get-get_or}
+use Rattle.aq_store.specs.declared.node.Node.{Node}
+use Rattle.aq_store.specs.Count.{Count, after}
+use Rattle.aq_store.proofs.TableLemmas.{slice_get-push}
+use Rattle.aq_cert.specs.declared.cert.Rel.{Rel}
+use Rattle.aq_include.specs.declared.step.Candidate.{Candidate}
+use Rattle.aq_store.specs.declared.store.Stop.{Stop}
+use Rattle.aq_store.specs.declared.store.Stop.TheVariants as stop
+use Rattle.aq_include.specs.Costs.{Takes, IsCause}
+use Rattle.aq_include.specs.Candidates.{IsWithin, Thins, ArePairChildren, IsCandidate, Offers, AreOfRel}
+use Rattle.aq_cert.proofs.MemberLemmas.{of-get}
+
+module _ {X : Type 0} where
+  pub get-front : (xs ys : List X) (i : ℕ) (x : X) → slice_get xs i ≡ Some x → slice_get (xs ++ ys) i ≡ Some x
+  get-front [] ys i x e = cc
+  get-front (z ∷ xs) ys zero x e = e
+  get-front (z ∷ xs) ys (suc i) x e = get-front xs ys i x e
+
+  pub get-last : (xs : List X) (y : X) → slice_get (xs ++ y ∷ []) (length xs) ≡ Some y
+  get-last [] y = refl
+  get-last (z ∷ xs) y = get-last xs y
+
+  pub get-of : (xs : List X) (x : X) → Contains xs x → (k : ℕ) × (slice_get xs k ≡ Some x)
+  get-of xs x h = (h.0, slice_get-get_or xs h.0 x h.1 ∙ ap Some h.2)
+
+pub within-refl : (r : Rel) → IsWithin r r
+within-refl r = record { same_goal = refl; pairs = λ q h. h }
+
+pub thins-permutation : (xs ys : List Candidate) → IsPermutation xs ys → Thins xs ys
+thins-permutation xs ys p = record {
+  from = λ j x e. get-of xs x (Contains-permutation ys xs x (IsPermutation-sym xs ys p) (of-get ys j x e));
+  covers = λ i x e. (let k = get-of ys x (Contains-permutation xs ys x p (of-get xs i x e)) in (k.0, x, k.1, within-refl x.rel));
+  lighter = λ f. omega (arith, sum_by-IsPermutation f xs ys p);
+}
+
+pub thins-trans : (xs ys zs : List Candidate) → Thins xs ys → Thins ys zs → Thins xs zs
+thins-trans xs ys zs a b = record {
+  from = λ j x e. (let k = b.from j x e in a.from k.0 x k.1);
+  covers = λ i x e.
+      let k = a.covers i x e in
+      let l = b.covers k.0 k.1 k.2 in
+      (l.0, l.1, l.2, record { same_goal = l.3.same_goal ∙ k.3.same_goal; pairs = λ q h. k.3.pairs q (l.3.pairs q h) });
+  lighter = λ f. omega (arith, a.lighter f, b.lighter f);
+}
+
+-- one candidate more, and it stays
+pub thins-push : (xs ys : List Candidate) (x : Candidate) → Thins xs ys → Thins (xs ++ x ∷ []) (ys ++ x ∷ [])
+thins-push xs ys x h = record {
+  from = λ j y e. elim (slice_get-push ys x j y e) [
+    | inl k ↦ (let t = h.from j y k in (t.0, get-front xs (x ∷ []) t.0 y t.1))
+    | inr k ↦ (length xs, get-last xs x ∙ ap Some k.1)
+  ];
+  covers = λ i y e. elim (slice_get-push xs x i y e) [
+    | inl k ↦ (let t = h.covers i y k in (t.0, t.1, get-front ys (x ∷ []) t.0 t.1 t.2, t.3))
+    | inr k ↦ (length ys, y, get-last ys x ∙ ap Some k.1, within-refl y.rel)
+  ];
+  lighter = λ f. omega (arith, sum_by_push f xs x, sum_by_push f ys x, h.lighter f);
+}
+
+-- one candidate more, and another asks for no more
+pub thins-skip : (xs ys : List Candidate) (x : Candidate) → Thins xs ys → (j : ℕ) (y : Candidate) → slice_get ys j ≡ Some y → IsWithin y.rel x.rel → Thins (xs ++ x ∷ []) ys
+thins-skip xs ys x h j y here within = record {
+  from = λ i z e. (let t = h.from i z e in (t.0, get-front xs (x ∷ []) t.0 z t.1));
+  covers = λ i z e. elim (slice_get-push xs x i z e) [
+    | inl k ↦ h.covers i z k
+    | inr k ↦ (j, y, here, subst (λ (w : Candidate). IsWithin y.rel w.rel) k.1 within)
+  ];
+  lighter = λ f. omega (arith, sum_by_push f xs x, h.lighter f);
+}
+
+module _ {L : Type 0} (table : List (Node L)) where
+  pub offers-front : (c : ℕ) (rel : Rel) (d : ℕ) (xs ys : List Candidate) → Offers table c rel d xs → Offers table c rel d (xs ++ ys)
+  offers-front c rel d xs ys h = record { place = h.place; candidate = h.candidate; here = get-front xs ys h.place h.candidate h.here; is = h.is }
+
+  light-more : (done a w q : ℕ) (s t : ℕ) → q ≤ 2 * a → s ≤ done * (2 * (a * w)) → t ≡ s + q * w → t ≤ (done + 1) * (2 * (a * w))
+  light-more done a w q s t less h e = omega (arith, mul-le-mul_right w less)
+
+  pub of-rel-push : (c : ℕ) (rel : Rel) (number count done : ℕ) (list new : List Candidate) (x : Candidate) → done < count → AreOfRel table c rel number count done list
+      → x.number ≡ number → x.rel.goal ≡ rel.goal → x.choice ≡ done → ArePairChildren table c done rel.pairs x.rel.pairs → new ≡ list ++ x ∷ []
+      → AreOfRel table c rel number count (done + 1) new
+  of-rel-push c rel number count done list new x less h is_number is_goal is_choice pairs e =
+      subst (AreOfRel table c rel number count (done + 1)) (sym e) (record {
+        each = λ j y here. elim (slice_get-push list x j y here) [
+          | inl k ↦ h.each j y k
+          | inr k ↦ subst (IsCandidate table c rel number count) k.1 (record {
+            number_is = is_number;
+            same_goal = is_goal;
+            choice = omega (arith, is_choice);
+            pairs = subst (λ d. ArePairChildren table c d rel.pairs x.rel.pairs) (sym is_choice) pairs;
+          })
+        ];
+        offers = λ d below. elim (cases_lt d done) [
+          | inl early ↦ offers-front c rel d list (x ∷ []) (h.offers d early)
+          | inr late ↦ (let same : done ≡ d = omega arith in record {
+            place = length list;
+            candidate = x;
+            here = get-last list x;
+            is = record { same_goal = is_goal; only = (subst (λ i. ArePairChildren table c i rel.pairs x.rel.pairs) same pairs).from };
+          })
+        ];
+        light = λ f. light-more done (length rel.pairs) (f rel.goal) (length x.rel.pairs) _ _ pairs.short (h.light f)
+            (sum_by_push (λ (y : Candidate). length y.rel.pairs * f y.rel.goal) list x ∙ ap (λ g. sum_by (λ (y : Candidate). length y.rel.pairs * f y.rel.goal) list + length x.rel.pairs * f g) is_goal);
+      })
+
+-- ---- steps in a loop
+
+pub takes-at : (d count n : ℕ) (s m t : Count) → d < count → m ≡ after (d * n) s → Takes n m t → Takes (count * n) s t
+takes-at d count n s m t less e h =
+    let more : d + 1 ≤ count = omega arith in
+    let taken : m.taken ≡ s.taken + d * n = ap (λ (x : Count). x.taken) e in
+    record {
+      later = omega (arith, h.later);
+      cheap = omega (arith, h.cheap, mul-le-mul_right n more);
+      same = h.same ∙ ap (λ (x : Count). x.limit) e;
+    }
+
+pub cause-at : {L : Type 0} → (d count n : ℕ) (s m : Count) (why : Stop L) → d < count → m ≡ after (d * n) s → IsCause n m why → IsCause (count * n) s why
+cause-at d count n s m stop.Spent less e h =
+    let more : d + 1 ≤ count = omega arith in
+    let taken : m.taken ≡ s.taken + d * n = ap (λ (x : Count). x.taken) e in
+    let limit : m.limit ≡ s.limit = ap (λ (x : Count). x.limit) e in
+    omega (arith, h, mul-le-mul_right n more)
+cause-at d count n s m (stop.Wide l r) less e h = tt
+cause-at d count n s m (stop.WideParts l r) less e h = tt
+cause-at d count n s m stop.Memory less e h = tt
+
+pub after-more : (d n : ℕ) (s m t : Count) → m ≡ after (d * n) s → t ≡ after n m → t ≡ after ((d + 1) * n) s
+after-more d n s m t e f =
+    let sum : s.taken + d * n + n ≡ s.taken + (d + 1) * n = omega arith in
+    f ∙ ap (after n) e ∙ ap (λ k. same k s.limit) sum
+  where
+    same : ℕ → ℕ → Count
+    same k l = record { taken = k; limit = l }

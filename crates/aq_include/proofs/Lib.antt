@@ -1,0 +1,15 @@
+pub mod Passed
+pub mod GoodLemmas
+pub mod BackLemmas
+pub mod LeastLemmas
+pub mod PlaceLemmas
+pub mod ChildLemmas
+pub mod CandidateLemmas
+pub mod StepLemmas
+pub mod BudgetLemmas
+pub mod EndLemmas
+pub mod SearchLemmas
+pub mod TurnLemmas
+pub mod CertLemmas
+pub mod SizeLemmas
+pub mod IncludeLemmas

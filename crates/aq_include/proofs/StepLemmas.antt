@@ -1,0 +1,315 @@
+-- From candidates to the macro under a choice.
+use Rattle.std.proofs.Common.{◌≡◌, ℕ, zero, suc, ◌+◌, ◌*◌, ◌<◌, ◌≤◌, ◌⊎◌, inl, inr, List, [], ◌∷◌, ◌++◌, length, map, drop, take, slice_get, get_or, Option, Some, None, Contains, refl, sym, ap, subst, ◌∙◌, arith, sum_by}
+use Rattle.std.specs.Prelude.{slice_index}
+use Rattle.std.proofs.Math.Nat.{mul-le-mul_left}
+use Rattle.std.proofs.lemmas.List.{drop_more, drop_all, take_more, length-map, length-take-le}
+use Rattle.std.proofs.lemmas.Bool.{cases_lt}
+use Rattle.std.proofs.lemmas.List.Sums.{sum_by-cons, sum_by-append, sum_by_push, sum_by-le-sum_by, sum_by-take-le}
+use Rattle.std.proofs.lemmas.Option.{slice_get-get_or}
+use Rattle.aq_store.specs.declared.node.Node.{Node}
+use Rattle.aq_store.specs.declared.lsta.Lsta.{Lsta}
+use Rattle.aq_store.specs.Count.{Count, after}
+use Rattle.aq_store.specs.Nodes.{HasShape, pairs_at}
+use Rattle.aq_store.proofs.TableLemmas.{slice_get-push, slice_get-some}
+use Rattle.aq_cert.specs.declared.cert.Rel.{Rel}
+use Rattle.aq_cert.specs.declared.cert.Macro.{Macro}
+use Rattle.aq_cert.specs.Goals.{rest_of, goal_rest}
+use Rattle.aq_cert.specs.Macros.{IsOfLevel, IsStepOf}
+use Rattle.aq_cert.proofs.StepLemmas.{pairs-length}
+use Rattle.aq_include.specs.declared.step.Candidate.{Candidate}
+use Rattle.aq_include.specs.declared.step.Stepped.{Stepped}
+use Rattle.aq_store.specs.declared.store.Stop.{Stop}
+use Rattle.aq_store.specs.declared.store.Stop.TheVariants as stop
+use Rattle.aq_include.specs.Steps.{IsOnly}
+use Rattle.aq_include.specs.Costs.{Takes, IsCause, rel_weight, size}
+use Rattle.aq_store.specs.Words.{words}
+use Rattle.aq_include.specs.Candidates.{Thins, AreChildren, IsCandidate, AreOfRel, AreOfRels, IsStepped}
+use Rattle.aq_include.specs.Levels.{HasLevel}
+use Rattle.aq_include.proofs.BudgetLemmas.{words-cons}
+use Rattle.aq_include.proofs.CandidateLemmas.{get-front, get-last, offers-front}
+
+module _ {X : Type 0} where
+  get-back : (xs ys : List X) (i : ℕ) (x : X) → slice_get ys i ≡ Some x → slice_get (xs ++ ys) (length xs + i) ≡ Some x
+  get-back [] ys i x e = ap (slice_get ys) (let z : 0 + i ≡ i = omega arith in z) ∙ e
+  get-back (z ∷ xs) ys i x e = ap (slice_get (z ∷ (xs ++ ys))) (let n : suc (length xs) + i ≡ suc (length xs + i) = omega arith in n) ∙ get-back xs ys i x e
+
+  get-append : (xs ys : List X) (i : ℕ) (x : X) → slice_get (xs ++ ys) i ≡ Some x → (slice_get xs i ≡ Some x) ⊎ ((j : ℕ) × (slice_get ys j ≡ Some x))
+  get-append [] ys i x e = inr (i, e)
+  get-append (z ∷ xs) ys zero x e = inl e
+  get-append (z ∷ xs) ys (suc i) x e = get-append xs ys i x e
+
+  no-item : (i : ℕ) (x : X) → slice_get [] i ≡ Some x → ⊥
+  no-item i x e = cc
+
+module _ {X Y : Type 0} (f : X → Y) where
+  pub get-map : (xs : List X) (i : ℕ) (y : Y) → slice_get (map f xs) i ≡ Some y → (x : X) × (slice_get xs i ≡ Some x) × (f x ≡ y)
+  get-map [] i y e = cc
+  get-map (x ∷ xs) zero y e = (x, refl, cc)
+  get-map (x ∷ xs) (suc i) y e = get-map xs i y e
+
+  pub map-get : (xs : List X) (i : ℕ) (x : X) → slice_get xs i ≡ Some x → slice_get (map f xs) i ≡ Some (f x)
+  map-get [] i x e = cc
+  map-get (z ∷ xs) zero x e = (let s : z ≡ x = cc in ap (λ w. Some (f w)) s)
+  map-get (z ∷ xs) (suc i) x e = map-get xs i x e
+
+  pub sum-map : (g : Y → ℕ) (xs : List X) → sum_by g (map f xs) ≡ sum_by (λ x. g (f x)) xs
+  sum-map g [] = refl
+  sum-map g (x ∷ xs) = sum_by-cons g (f x) (map f xs) ∙ ap (λ n. g (f x) + n) (sum-map g xs) ∙ sym (sum_by-cons (λ z. g (f z)) x xs)
+
+-- a list with a first number has a number
+pub first-is : (left : List ℕ) (c : ℕ) → c < slice_index left 0 → (n : ℕ) × (later : List ℕ) × (left ≡ n ∷ later) × (c < n)
+first-is [] c less = absurd (omega (arith, less))
+first-is (n ∷ later) c less = (n, later, refl, less)
+
+pub has-level : (goals : List Lsta) (level g k : ℕ) → length (goal_rest goals level g) ≡ suc k → HasLevel goals level g
+has-level goals level g k e = at (slice_get goals g) refl
+  where
+    inside : (xs : List ℕ) (i : ℕ) → length (drop i xs) ≡ suc k → i < length xs
+    inside xs i e = elim (cases_lt i (length xs)) [ inl h ↦ h | inr h ↦ absurd (omega (arith, e, ap (λ (l : List ℕ). length l) (drop_all i xs h))) ]
+
+    at : (o : Option Lsta) → slice_get goals g ≡ o → HasLevel goals level g
+    at None is = absurd (omega (arith, e, ap (λ o. length (rest_of o level)) is))
+    at (Some goal) is =
+        let more : level < length goal.shape.items = inside goal.shape.items level (sym (ap (λ o. length (rest_of o level)) is) ∙ e) in
+        record {
+          goal = goal;
+          listed = is;
+          within = more;
+          shape = ap (λ o. rest_of o level) is ∙ drop_more goal.shape.items level 0 more ∙ ap (λ l. get_or goal.shape.items level 0 ∷ l) (sym (ap (λ o. rest_of o (level + 1)) is));
+        }
+
+module _ {L : Type 0} (table : List (Node L)) where
+  -- a place's shape has a word
+  pub some-word : (shape : List ℕ) (x : ℕ) → HasShape table shape x → 0 < words shape
+  unfolding HasShape
+  some-word [] x h = omega arith
+  some-word (n ∷ shape) x h =
+      let q = slice_get-some h.0 0 h.1.some in
+      let w = some-word shape q.0.0 (h.3.left 0 q.0 q.1) in
+      let m : 0 < n = omega (arith, h.1.some, h.2) in
+      let e = words-cons n shape in
+      omega (arith, mul-le-mul_left n w, e)
+
+  -- the pairs of a relation take no more than its weight
+  pub rel-cheap : (rest : ℕ → List ℕ) (left : List ℕ) (rel : Rel) (n : ℕ) (later : List ℕ) → rest rel.goal ≡ n ∷ later
+      → ((p : ℕ × ℕ) → Contains rel.pairs p → HasShape table left p.0 × HasShape table (rest rel.goal) p.1) → n * length rel.pairs ≤ rel_weight rest rel
+  rel-cheap rest left rel n later e shapes = at rel.pairs (λ p h. (shapes p h).1)
+    where
+      unfolded : words (n ∷ later) ≡ n * words later
+      unfolded = words-cons n later
+
+      more : (ps : List (ℕ × ℕ)) → 0 < words later → n * length ps ≤ length ps * words (rest rel.goal)
+      more ps w = (let k : words (rest rel.goal) ≡ n * words later = ap words e ∙ unfolded in
+          let one : n * 1 ≤ n * words later = mul-le-mul_left n w in
+          let all : length ps * n ≤ length ps * (n * words later) = mul-le-mul_left (length ps) (omega (arith, one)) in
+          omega (arith, all, ap (λ z. length ps * z) k))
+
+      positive : (p : ℕ × ℕ) → HasShape table (rest rel.goal) p.1 → 0 < words later
+      positive p h = (let w = some-word (rest rel.goal) p.1 h in
+          let k : words (rest rel.goal) ≡ n * words later = ap words e ∙ unfolded in by (words later) refl w k)
+        where
+          by : (z : ℕ) → words later ≡ z → 0 < words (rest rel.goal) → words (rest rel.goal) ≡ n * words later → 0 < words later
+          by zero is w k = absurd (omega (arith, w, k, ap (λ v. n * v) is))
+          by (suc z) is w k = omega (arith, is)
+
+      at : (ps : List (ℕ × ℕ)) → ((p : ℕ × ℕ) → Contains ps p → HasShape table (rest rel.goal) p.1) → n * length ps ≤ length ps * words (rest rel.goal)
+      at [] f = omega arith
+      at (p ∷ ps) f = more (p ∷ ps) (positive p (f p (0, omega arith, refl)))
+
+  of-rels-append : (c : ℕ) (rest : ℕ → List ℕ) (rels : List Rel) (list more : List Candidate) (rel : Rel) (n : ℕ) (later : List ℕ) → rest rel.goal ≡ n ∷ later
+      → AreOfRels table c rest rels list → AreOfRel table c rel (length rels) n n more → AreOfRels table c rest (rels ++ rel ∷ []) (list ++ more)
+  of-rels-append c rest rels list more rel n later e h k = record {
+    each = λ j x here. elim (get-append list more j x here) [
+      | inl old ↦ (let r = h.each j x old in (r.0, get-front rels (rel ∷ []) x.number r.0 r.1, r.2))
+      | inr new ↦ (let r = k.each new.0 x new.1 in (
+        rel,
+        ap (slice_get (rels ++ rel ∷ [])) r.number_is ∙ get-last rels rel,
+        (n, later, e, record { number_is = refl; same_goal = r.same_goal; choice = r.choice; pairs = r.pairs }),
+      ))
+    ];
+    offers = λ i s d m other here is less. elim (slice_get-push rels rel i s here) [
+      | inl old ↦ offers-front table c s d list more (h.offers i s d m other old is less)
+      | inr new ↦
+          (let counts : m ≡ n = (let z : m ∷ other ≡ n ∷ later = sym is ∙ sym (ap (λ (r : Rel). rest r.goal) new.1) ∙ e in cc) in
+          let o = k.offers d (omega (arith, less, counts)) in
+          record {
+            place = length list + o.place;
+            candidate = o.candidate;
+            here = get-back list more o.place o.candidate o.here;
+            is = subst (λ (r : Rel). IsOnly table c r d o.candidate.rel) new.1 o.is;
+          })
+    ];
+  }
+
+-- ---- the relations one by one
+
+pub first-of : (xs : List ℕ) (n : ℕ) (later : List ℕ) → xs ≡ n ∷ later → slice_index xs 0 ≡ n
+first-of xs n later e = ap (λ (l : List ℕ). slice_index l 0) e
+
+module _ {L : Type 0} (table : List (Node L)) where
+  -- what is known at a relation of the macro
+  pub record AtRel (goals : List Lsta) (level c : ℕ) (rel : Rel) (count : ℕ) : Type 0 where
+    pub shape : goal_rest goals level rel.goal ≡ count ∷ goal_rest goals (level + 1) rel.goal
+    pub within : (p : ℕ × ℕ) → Contains rel.pairs p → (c < length (pairs_at table p.0)) × (count ≤ length (pairs_at table p.1))
+    pub cheap : count * length rel.pairs ≤ rel_weight (goal_rest goals level) rel
+
+  pub level-of : (goals : List Lsta) (level c : ℕ) (left : List ℕ) (m : Macro) → IsOfLevel table left (goal_rest goals level) m → c < slice_index left 0
+      → (k : ℕ) (rel : Rel) → slice_get m.rels k ≡ Some rel → HasLevel goals level rel.goal
+  level-of goals level c left m h less k rel here =
+      let f = first-is left c less in
+      has-level goals level rel.goal (length f.1) (h.deep k rel here ∙ ap (λ (l : List ℕ). length l) f.2 ∙ omega arith)
+
+  pub at-rel : (goals : List Lsta) (level c : ℕ) (left : List ℕ) (m : Macro) → IsOfLevel table left (goal_rest goals level) m → c < slice_index left 0
+      → (k : ℕ) (rel : Rel) (count : ℕ) → slice_get m.rels k ≡ Some rel → count ≡ slice_index (goal_rest goals level rel.goal) 0 → AtRel goals level c rel count
+  at-rel goals level c left m h less k rel count here is =
+      let f = first-is left c less in
+      let g = level-of goals level c left m h less k rel here in
+      let same : count ≡ get_or g.goal.shape.items level 0 = is ∙ first-of _ _ _ g.shape in
+      let shape : goal_rest goals level rel.goal ≡ count ∷ goal_rest goals (level + 1) rel.goal = g.shape ∙ ap (λ n. n ∷ goal_rest goals (level + 1) rel.goal) (sym same) in
+      record {
+        shape = shape;
+        within = λ p listed.
+            let s = h.pairs k rel p here listed in
+            let a : HasShape table (f.0 ∷ f.1) p.0 = subst (λ l. HasShape table l p.0) f.2 s.0 in
+            let b : HasShape table (count ∷ goal_rest goals (level + 1) rel.goal) p.1 = subst (λ l. HasShape table l p.1) shape s.1 in
+            (omega (arith, f.3, pairs-length table f.0 f.1 p.0 a), omega (arith, pairs-length table count (goal_rest goals (level + 1) rel.goal) p.1 b));
+        cheap = rel-cheap table (goal_rest goals level) left rel count (goal_rest goals (level + 1) rel.goal) shape (λ p listed. h.pairs k rel p here listed);
+      }
+
+  pub read-rel : (xs ys : List Rel) (k : ℕ) (rel : Rel) → xs ≡ ys → k < length xs → rel ≡ get_or xs k rel → slice_get ys k ≡ Some rel
+  read-rel xs ys k rel e less is = subst (λ (l : List Rel). slice_get l k ≡ Some rel) e (slice_get-get_or xs k rel less ∙ ap Some (sym is))
+
+  -- what the relations so far take
+  weights-more : (rest : ℕ → List ℕ) (xs : List Rel) (k : ℕ) (rel : Rel) → k < length xs → rel ≡ get_or xs k rel
+      → sum_by (rel_weight rest) (take (k + 1) xs) ≡ sum_by (rel_weight rest) (take k xs) + rel_weight rest rel
+  weights-more rest xs k rel less is =
+      ap (sum_by (rel_weight rest)) (take_more xs k rel less) ∙ sum_by_push (rel_weight rest) (take k xs) (get_or xs k rel) ∙ ap (λ (r : Rel). sum_by (rel_weight rest) (take k xs) + rel_weight rest r) (sym is)
+
+  pub weights-within : (rest : ℕ → List ℕ) (xs ys : List Rel) (k : ℕ) (rel : Rel) → xs ≡ ys → k < length xs → rel ≡ get_or xs k rel
+      → sum_by (rel_weight rest) (take k xs) + rel_weight rest rel ≤ sum_by (rel_weight rest) ys
+  weights-within rest xs ys k rel e less is =
+      omega (arith, weights-more rest xs k rel less is, sum_by-take-le (rel_weight rest) xs (k + 1), ap (sum_by (rel_weight rest)) e)
+
+  pub takes-then : (a b n : ℕ) (s m t : Count) → Takes a s m → Takes b m t → a + b ≤ n → Takes n s t
+  takes-then a b n s m t h k le = record { later = omega (arith, h.later, k.later); cheap = omega (arith, h.cheap, k.cheap); same = k.same ∙ h.same }
+
+  pub cause-then : (a b n : ℕ) (s m : Count) (why : Stop L) → Takes a s m → IsCause b m why → a + b ≤ n → IsCause n s why
+  cause-then a b n s m stop.Spent h k le = omega (arith, h.cheap, h.same, k)
+  cause-then a b n s m (stop.Wide l r) h k le = tt
+  cause-then a b n s m (stop.WideParts l r) h k le = tt
+  cause-then a b n s m stop.Memory h k le = tt
+
+  -- one relation more
+  pub of-rels-more : (goals : List Lsta) (level c : ℕ) (xs : List Rel) (k number : ℕ) (rel : Rel) (count : ℕ) (list more new : List Candidate) → k < length xs → rel ≡ get_or xs k rel → number ≡ k
+      → AtRel goals level c rel count → AreOfRels table c (goal_rest goals level) (take k xs) list → AreOfRel table c rel number count count more → new ≡ list ++ more
+      → AreOfRels table c (goal_rest goals level) (take (k + 1) xs) new
+  of-rels-more goals level c xs k number rel count list more new less is at r h g e =
+      let n : length (take k xs) ≡ k = length-take-le k xs (omega arith) in
+      let all : AreOfRels table c (goal_rest goals level) (take k xs ++ rel ∷ []) (list ++ more) =
+      of-rels-append table c (goal_rest goals level) (take k xs) list more rel count (goal_rest goals (level + 1) rel.goal) r.shape h
+      (subst (λ i. AreOfRel table c rel i count count more) (at ∙ sym n) g) in
+      subst (λ l. AreOfRels table c (goal_rest goals level) l new) (ap (λ (z : Rel). take k xs ++ z ∷ []) is ∙ sym (take_more xs k rel less))
+      (subst (λ l. AreOfRels table c (goal_rest goals level) (take k xs ++ rel ∷ []) l) (sym e) all)
+
+  pub light-more : (goals : List Lsta) (level c : ℕ) (xs : List Rel) (k number : ℕ) (rel : Rel) (count : ℕ) (list more new : List Candidate) → k < length xs → rel ≡ get_or xs k rel
+      → AtRel goals level c rel count → AreOfRel table c rel number count count more → new ≡ list ++ more
+      → sum_by (λ (x : Candidate). rel_weight (goal_rest goals (level + 1)) x.rel) list ≤ 2 * sum_by (rel_weight (goal_rest goals level)) (take k xs)
+      → sum_by (λ (x : Candidate). rel_weight (goal_rest goals (level + 1)) x.rel) new ≤ 2 * sum_by (rel_weight (goal_rest goals level)) (take (k + 1) xs)
+  light-more goals level c xs k number rel count list more new less is r g e h =
+      let w : ℕ = words (goal_rest goals (level + 1) rel.goal) in
+      let one : rel_weight (goal_rest goals level) rel ≡ length rel.pairs * (count * w) = ap (λ z. length rel.pairs * z) (ap words r.shape ∙ words-cons count (goal_rest goals (level + 1) rel.goal)) in
+      let l = g.light (λ i. words (goal_rest goals (level + 1) i)) in
+      let both = ap (sum_by (λ (x : Candidate). rel_weight (goal_rest goals (level + 1)) x.rel)) e ∙ sum_by-append (λ (x : Candidate). rel_weight (goal_rest goals (level + 1)) x.rel) list more in
+      omega (arith, both, h, weights-more (goal_rest goals level) xs k rel less is, twice count (length rel.pairs) w _ _ l one)
+    where
+      twice : (n a w s t : ℕ) → s ≤ n * (2 * (a * w)) → t ≡ a * (n * w) → s ≤ 2 * t
+      twice n a w s t h e = omega arith
+
+  pub paid-more : (c number : ℕ) (rel : Rel) (count : ℕ) (list more new : List Candidate) (start : ℕ) (m t : Count) → AreOfRel table c rel number count count more → new ≡ list ++ more
+      → t ≡ after (count * length rel.pairs) m → sum_by (λ (x : Candidate). length x.rel.pairs) list + 2 * start ≤ 2 * m.taken
+      → sum_by (λ (x : Candidate). length x.rel.pairs) new + 2 * start ≤ 2 * t.taken
+  paid-more c number rel count list more new start m t g e f h =
+      let l = g.light (λ _. 1) in
+      let same = sum_by-le-sum_by (λ (x : Candidate). length x.rel.pairs) (λ (x : Candidate). length x.rel.pairs * 1) more (λ x. omega arith) in
+      let both = ap (sum_by (λ (x : Candidate). length x.rel.pairs)) e ∙ sum_by-append (λ (x : Candidate). length x.rel.pairs) list more in
+      let taken : t.taken ≡ m.taken + count * length rel.pairs = ap (λ (x : Count). x.taken) f in
+      omega (arith, both, h, same, l, taken)
+
+  pub takes-more : (rest : ℕ → List ℕ) (xs : List Rel) (k : ℕ) (rel : Rel) (b : ℕ) (s m t : Count) → k < length xs → rel ≡ get_or xs k rel → b ≤ rel_weight rest rel
+      → Takes (sum_by (rel_weight rest) (take k xs)) s m → Takes b m t → Takes (sum_by (rel_weight rest) (take (k + 1) xs)) s t
+  takes-more rest xs k rel b s m t less is le h g = takes-then _ b _ s m t h g (omega (arith, weights-more rest xs k rel less is, le))
+
+  -- ---- the whole step
+
+  pub domain-pairs : (rest : ℕ → List ℕ) (c : ℕ) (left : List ℕ) (m : Macro) → IsOfLevel table left rest m → c < slice_index left 0
+      → (x : ℕ) → Contains m.domain x → c < length (pairs_at table x)
+  domain-pairs rest c left m h less x listed =
+      let f = first-is left c less in
+      let a : HasShape table (f.0 ∷ f.1) x = subst (λ l. HasShape table l x) f.2 (h.domain x listed) in
+      omega (arith, f.3, pairs-length table f.0 f.1 x a)
+
+  only-of : (c : ℕ) (rel : Rel) (number count : ℕ) (x : Candidate) → IsCandidate table c rel number count x → IsOnly table c rel x.choice x.rel
+  only-of c rel number count x h = record { same_goal = h.same_goal; only = h.pairs.from }
+
+  step-of : (c : ℕ) (rest : ℕ → List ℕ) (rels : List Rel) (x : Candidate) (rel : Rel) (n : ℕ) (later : List ℕ) → slice_get rels x.number ≡ Some rel → rest rel.goal ≡ n ∷ later
+      → IsCandidate table c rel x.number n x → IsStepOf table c rest rels (x.number, x.choice) x.rel
+  step-of c rest rels x rel n later here shape h = record {
+    source = rel;
+    here = here;
+    same_goal = sym h.same_goal;
+    choices = n;
+    later = later;
+    shape = shape;
+    choice = h.choice;
+    pairs = h.pairs.all;
+  }
+
+  stepped-plain : (c : ℕ) (rest below : ℕ → List ℕ) (m : Macro) (domain : List ℕ) (list kept : List Candidate) → AreChildren table c m.domain domain → AreOfRels table c rest m.rels list → Thins list kept
+      → sum_by (λ (x : Candidate). rel_weight below x.rel) list ≤ 2 * sum_by (rel_weight rest) m.rels
+      → IsStepped table c rest below m (record { to = record { domain = domain; rels = map (λ (x : Candidate). x.rel) kept }; from = map (λ (x : Candidate). (x.number, x.choice)) kept })
+  stepped-plain c rest below m domain list kept d r t light = record {
+    edge = record {
+      domain = d.all;
+      one_each = length-map kept (λ (x : Candidate). (x.number, x.choice)) ∙ sym (length-map kept (λ (x : Candidate). x.rel));
+      steps = λ k s rel here there.
+          let a = get-map (λ (x : Candidate). (x.number, x.choice)) kept k s here in
+          let b = get-map (λ (x : Candidate). x.rel) kept k rel there in
+          let same : b.0 ≡ a.0 = (let e : Some b.0 ≡ Some a.0 = sym b.1 ∙ a.1 in cc) in
+          let o = t.from k a.0 a.1 in
+          let q = r.each o.0 a.0 o.1 in
+          subst (λ (z : ℕ × ℕ). IsStepOf table c rest m.rels z rel) a.2
+          (subst (λ (z : Rel). IsStepOf table c rest m.rels (a.0.number, a.0.choice) z) (ap (λ (x : Candidate). x.rel) (sym same) ∙ b.2)
+          (step-of c rest m.rels a.0 q.0 q.2.0 q.2.1 q.1 q.2.2 q.2.3));
+    };
+    back = record {
+      domain = d.from;
+      rels = λ k rel e n later here shape less.
+          let o = r.offers k rel e n later here shape less in
+          let y = t.covers o.place o.candidate o.here in (
+            y.0,
+            y.1.rel,
+            map-get (λ (x : Candidate). x.rel) kept y.0 y.1 y.2,
+            record { same_goal = y.3.same_goal ∙ o.is.same_goal; only = λ q listed. o.is.only q (y.3.pairs q listed) },
+          );
+      sources = λ j to here.
+          let b = get-map (λ (x : Candidate). x.rel) kept j to here in
+          let o = t.from j b.0 b.1 in
+          let q = r.each o.0 b.0 o.1 in
+          record { number = b.0.number; rel = q.0; choice = b.0.choice; here = q.1; is = subst (IsOnly table c q.0 b.0.choice) b.2 (only-of c q.0 b.0.number q.2.0 b.0 q.2.3) };
+    };
+    light = omega (arith, d.short, light, t.lighter (λ x. rel_weight below x.rel), sum-map (λ (x : Candidate). x.rel) (rel_weight below) kept);
+  }
+
+  pub stepped : (c : ℕ) (rest below : ℕ → List ℕ) (m : Macro) (domain : List ℕ) (list kept : List Candidate) (s : Stepped) → AreChildren table c m.domain domain → AreOfRels table c rest m.rels list → Thins list kept
+      → sum_by (λ (x : Candidate). rel_weight below x.rel) list ≤ 2 * sum_by (rel_weight rest) m.rels
+      → s.to.domain ≡ domain → s.to.rels ≡ map (λ (x : Candidate). x.rel) kept → s.from ≡ map (λ (x : Candidate). (x.number, x.choice)) kept
+      → IsStepped table c rest below m s
+  stepped c rest below m domain list kept s d r t light e f h =
+      let same : record { to = record { domain = domain; rels = map (λ (x : Candidate). x.rel) kept }; from = map (λ (x : Candidate). (x.number, x.choice)) kept } ≡ s =
+      λ i. record { to = record { domain = sym e i; rels = sym f i }; from = sym h i } in
+      subst (IsStepped table c rest below m) same (stepped-plain c rest below m domain list kept d r t light)
+
+  pub stepped-size : (domain : List ℕ) (list kept : List Candidate) (s : Stepped) (n a b : ℕ) → length domain ≤ 2 * n → Thins list kept → sum_by (λ (x : Candidate). length x.rel.pairs) list + 2 * a ≤ 2 * b
+      → s.to.domain ≡ domain → s.to.rels ≡ map (λ (x : Candidate). x.rel) kept → (start : ℕ) → a ≡ start + n → size s.to + 2 * start ≤ 2 * b
+  stepped-size domain list kept s n a b short t paid e f start is =
+      omega (arith, short, paid, t.lighter (λ x. length x.rel.pairs), sum-map (λ (x : Candidate). x.rel) (λ (r : Rel). length r.pairs) kept, ap (sum_by (λ (r : Rel). length r.pairs)) f, ap (λ (l : List ℕ). length l) e)

@@ -1,0 +1,75 @@
+-- The relations under a choice, before repeats are left out.
+use Rattle.std.specs.Prelude.{◌≡◌, ℕ, ◌*◌, ◌<◌, ◌≤◌, List, ◌∷◌, length, sum_by, slice_get, Some, Contains}
+use Rattle.aq_store.specs.declared.node.Node.{Node}
+use Rattle.aq_store.specs.Nodes.{pairs_at}
+use Rattle.aq_cert.specs.declared.cert.Rel.{Rel}
+use Rattle.aq_cert.specs.declared.cert.Macro.{Macro}
+use Rattle.aq_cert.specs.Macros.{IsEdge}
+use Rattle.aq_include.specs.declared.step.Candidate.{Candidate}
+use Rattle.aq_include.specs.declared.step.Stepped.{Stepped}
+use Rattle.aq_include.specs.Steps.{IsChild, IsPairChild, IsOnly, IsBack}
+use Rattle.aq_include.specs.Costs.{weight}
+
+-- the relation asks for no more than the other
+pub record IsWithin (r s : Rel) : Type 0 where
+  pub same_goal : r.goal ≡ s.goal
+  pub pairs : (q : ℕ × ℕ) → Contains r.pairs q → Contains s.pairs q
+
+-- some candidate has the relation
+pub record HasRel (list : List Candidate) (r : Rel) : Type 0 where
+  pub place : ℕ
+  pub candidate : Candidate
+  pub here : slice_get list place ≡ Some candidate
+  pub is : IsWithin candidate.rel r
+
+-- some candidates are left out, for each of which another stays that asks for no more
+pub record Thins (all kept : List Candidate) : Type 0 where
+  pub from : (j : ℕ) (x : Candidate) → slice_get kept j ≡ Some x → (i : ℕ) × (slice_get all i ≡ Some x)
+  pub covers : (i : ℕ) (x : Candidate) → slice_get all i ≡ Some x → (j : ℕ) × (y : Candidate) × (slice_get kept j ≡ Some y) × IsWithin y.rel x.rel
+  pub lighter : (f : Candidate → ℕ) → sum_by f kept ≤ sum_by f all
+
+module _ {L : Type 0} (table : List (Node L)) where
+  -- the children of the places, as a list
+  pub record AreChildren (c : ℕ) (xs ys : List ℕ) : Type 0 where
+    pub from : (y : ℕ) → Contains ys y → IsChild table c xs y
+    pub all : (x : ℕ) (p : ℕ × ℕ) → Contains xs x → slice_get (pairs_at table x) c ≡ Some p → Contains ys p.0 × Contains ys p.1
+    pub short : length ys ≤ 2 * length xs
+
+  -- the children of the pairs, as a list
+  pub record ArePairChildren (c d : ℕ) (ps qs : List (ℕ × ℕ)) : Type 0 where
+    pub from : (q : ℕ × ℕ) → Contains qs q → IsPairChild table c d ps q
+    pub all : (p l r : ℕ × ℕ) → Contains ps p → slice_get (pairs_at table p.0) c ≡ Some l → slice_get (pairs_at table p.1) d ≡ Some r
+        → Contains qs (l.0, r.0) × Contains qs (l.1, r.1)
+    pub short : length qs ≤ 2 * length ps
+
+  -- the candidate is the relation with this number under a choice of its goal
+  pub record IsCandidate (c : ℕ) (rel : Rel) (number count : ℕ) (x : Candidate) : Type 0 where
+    pub number_is : x.number ≡ number
+    pub same_goal : x.rel.goal ≡ rel.goal
+    pub choice : x.choice < count
+    pub pairs : ArePairChildren c x.choice rel.pairs x.rel.pairs
+
+  -- some candidate is the relation under this choice of its goal
+  pub record Offers (c : ℕ) (rel : Rel) (d : ℕ) (list : List Candidate) : Type 0 where
+    pub place : ℕ
+    pub candidate : Candidate
+    pub here : slice_get list place ≡ Some candidate
+    pub is : IsOnly table c rel d candidate.rel
+
+  -- the candidates of one relation
+  pub record AreOfRel (c : ℕ) (rel : Rel) (number count done : ℕ) (list : List Candidate) : Type 0 where
+    pub each : (j : ℕ) (x : Candidate) → slice_get list j ≡ Some x → IsCandidate c rel number count x
+    pub offers : (d : ℕ) → d < done → Offers c rel d list
+    pub light : (f : ℕ → ℕ) → sum_by (λ (x : Candidate). length x.rel.pairs * f x.rel.goal) list ≤ done * (2 * (length rel.pairs * f rel.goal))
+
+  -- the candidates of the relations
+  pub record AreOfRels (c : ℕ) (rest : ℕ → List ℕ) (rels : List Rel) (list : List Candidate) : Type 0 where
+    pub each : (j : ℕ) (x : Candidate) → slice_get list j ≡ Some x
+        → (rel : Rel) × (slice_get rels x.number ≡ Some rel) × ((n : ℕ) × (later : List ℕ) × (rest rel.goal ≡ n ∷ later) × IsCandidate c rel x.number n x)
+    pub offers : (k : ℕ) (rel : Rel) (d n : ℕ) (later : List ℕ) → slice_get rels k ≡ Some rel → rest rel.goal ≡ n ∷ later → d < n → Offers c rel d list
+
+  -- the macro under a choice, and where its relations come from
+  pub record IsStepped (c : ℕ) (rest below : ℕ → List ℕ) (m : Macro) (s : Stepped) : Type 0 where
+    pub edge : IsEdge table c rest m s.to s.from
+    pub back : IsBack table c rest m s.to
+    pub light : weight below s.to ≤ 2 * weight rest m

@@ -1,0 +1,11 @@
+pub mod Members
+pub mod Costs
+pub mod Steps
+pub mod Candidates
+pub mod Levels
+pub mod Good
+pub mod Least
+pub mod Ends
+pub mod Tables
+pub mod Search
+pub mod Answers

@@ -1,0 +1,13 @@
+//! The search that decides whether each nonzero vector of an automaton has a proportional one in others.
+//! docs/AUTOMATA.md tells how it goes.
+#![tactic(auto)]
+
+mod end;
+mod inclusion;
+mod pay;
+mod places;
+mod search;
+mod step;
+mod table;
+
+pub use inclusion::{Answer, include};

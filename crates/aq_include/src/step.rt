@@ -1,0 +1,270 @@
+//! The macro under a choice.
+ghost use Rattle.std.specs.Prelude.{◌≡◌, ◌≤◌, ◌<◌, ◌+◌, ◌*◌, ℕ, List, length, map, drop, sum_by, Contains, IfOk};
+ghost use Rattle.std.specs.Prelude.{IfErr, OnOk, slice_get, slice_index, Some, IsTrue};
+ghost use Rattle.aq_store.specs.Count.{after};
+ghost use Rattle.aq_store.specs.Nodes.{pairs_at, HasShape};
+ghost use Rattle.aq_cert.specs.Macros.{IsOfLevel};
+ghost use Rattle.aq_cert.specs.Goals.{goal_rest};
+ghost use Rattle.aq_include.specs.Costs.{Takes, IsCause, rel_weight, weight, size};
+ghost use Rattle.aq_include.specs.Ends.{IsNotWide};
+ghost use Rattle.aq_include.specs.Levels.{HasLevel};
+ghost use Rattle.aq_include.specs.Candidates.{AreChildren, ArePairChildren, AreOfRel, AreOfRels, HasRel, IsStepped};
+ghost use Rattle.aq_include.specs.Candidates.{Thins};
+
+use crate::pay::pay;
+use crate::places::{children, pair_children, same_pairs, tidy_pairs, tidy_places};
+use aq_cert::{Macro, Rel};
+use aq_label::Label;
+use aq_store::{Lsta, Steps, Stop, Store};
+use sqlite_items::Items;
+use std::alloc::{AllocError, Global};
+use std::cmp::Ordering;
+
+/// A relation under a choice of the left and one of its goal, with the number of the relation that it comes from.
+#[derive(Debug, Drop)]
+pub(crate) struct Candidate {
+    rel: Rel,
+    number: u32,
+    choice: u32,
+}
+
+/// The macro under a choice, and where each of its relations comes from.
+#[derive(Debug, Drop)]
+pub(crate) struct Stepped {
+    pub(crate) to: Macro,
+    pub(crate) from: Items<(u32, u32)>,
+}
+
+/// The places under a choice.
+fn step_domain<L: Label>(
+    store: &Store<L>,
+    alloc: Global,
+    domain: &[u32],
+    choice: u32,
+    steps: &mut Steps,
+) -> Result<Items<u32>, Stop<L>>
+    requires { (x : ℕ) → Contains domain.now x → choice < length (pairs_at store.now x) }
+    ensures children { IfOk result (λ list. AreChildren store.now choice domain.now list) }
+    ensures paid { OnOk result (steps.new ≡ after (length domain.now) steps.old) }
+    ensures wide { IfErr result IsNotWide }
+    ensures takes { Takes (length domain.now) steps.old steps.new }
+    ensures spent { IfErr result (λ e. IsCause (length domain.now) steps.old e) }
+{
+    pay::<L>(steps, domain.len())?;
+    let Ok(list) = children(store, alloc, domain, choice) else {
+        return Err(Stop::Memory);
+    };
+    Ok(tidy_places(list))
+}
+
+/// The pairs under a choice of the left and one of the goal.
+fn step_pairs<L: Label>(
+    store: &Store<L>,
+    alloc: Global,
+    pairs: &[(u32, u32)],
+    choice: u32,
+    goal_choice: u32,
+    steps: &mut Steps,
+) -> Result<Items<(u32, u32)>, Stop<L>>
+    requires { (p : ℕ × ℕ) → Contains pairs.now p → (choice < length (pairs_at store.now p.0)) × (goal_choice < length
+        (pairs_at store.now p.1)) }
+    ensures children { IfOk result (λ list. ArePairChildren store.now choice goal_choice pairs.now list) }
+    ensures paid { OnOk result (steps.new ≡ after (length pairs.now) steps.old) }
+    ensures wide { IfErr result IsNotWide }
+    ensures takes { Takes (length pairs.now) steps.old steps.new }
+    ensures spent { IfErr result (λ e. IsCause (length pairs.now) steps.old e) }
+{
+    pay::<L>(steps, pairs.len())?;
+    let Ok(list) = pair_children(store, alloc, pairs, choice, goal_choice) else {
+        return Err(Stop::Memory);
+    };
+    let Ok(list) = tidy_pairs(alloc, list) else {
+        return Err(Stop::Memory);
+    };
+    Ok(list)
+}
+
+/// A relation under a choice of the left, for each choice of its goal.
+fn step_rel<L: Label>(
+    store: &Store<L>,
+    alloc: Global,
+    rel: &Rel,
+    number: u32,
+    count: u32,
+    choice: u32,
+    steps: &mut Steps,
+) -> Result<Vec<Candidate>, Stop<L>>
+    requires { (p : ℕ × ℕ) → Contains rel.now.pairs p → (choice < length (pairs_at store.now p.0)) × (count ≤ length
+        (pairs_at store.now p.1)) }
+    ensures candidates { IfOk result (λ list. AreOfRel store.now choice rel.now number count count list.items) }
+    ensures paid { OnOk result (steps.new ≡ after (count * length rel.now.pairs) steps.old) }
+    ensures wide { IfErr result IsNotWide }
+    ensures takes { Takes (count * length rel.now.pairs) steps.old steps.new }
+    ensures spent { IfErr result (λ e. IsCause (count * length rel.now.pairs) steps.old e) }
+{
+    let _taken = steps.taken();
+    let mut list = Vec::new(alloc);
+    for goal_choice in 0..count {
+        let pairs = step_pairs(
+            store,
+            alloc,
+            rel.pairs.as_slice(),
+            choice,
+            goal_choice,
+            steps,
+        )?;
+        let candidate = Candidate {
+            rel: Rel {
+                goal: rel.goal,
+                pairs,
+            },
+            number,
+            choice: goal_choice,
+        };
+        let Ok(()) = list.push(candidate) else {
+            return Err(Stop::Memory);
+        };
+    }
+    Ok(list)
+}
+
+/// How many choices a goal has at a level.
+fn goal_choices(goals: &[Lsta], goal: u32, level: u32) -> u32
+    requires { HasLevel goals.now level goal }
+    ensures { result ≡ slice_index (goal_rest goals.now level goal) 0 }
+{
+    goals[goal as usize].shape[level as usize]
+}
+
+/// The relations of a macro under a choice of the left, for each choice of their goals.
+fn step_rels<L: Label>(
+    store: &Store<L>,
+    alloc: Global,
+    here: &Macro,
+    goals: &[Lsta],
+    level: u32,
+    choice: u32,
+    steps: &mut Steps,
+) -> Result<Vec<Candidate>, Stop<L>>
+    requires { (left : List ℕ) × IsOfLevel store.now left (goal_rest goals.now level) here.now × (choice < slice_index
+        left 0) }
+    ensures candidates { IfOk result (λ list. AreOfRels store.now choice (goal_rest goals.now level) here.now.rels
+        list.items) }
+    ensures light { IfOk result (λ list. sum_by (λ x. rel_weight (goal_rest goals.now (level + 1)) x.rel) list.items
+        ≤ 2 *
+        sum_by (rel_weight (goal_rest goals.now level)) here.now.rels) }
+    ensures paid { IfOk result (λ list. sum_by (λ x. length x.rel.pairs) list.items + 2 * steps.old.taken ≤ 2 *
+        steps.new.taken) }
+    ensures wide { IfErr result IsNotWide }
+    ensures takes { Takes (sum_by (rel_weight (goal_rest goals.now level)) here.now.rels) steps.old steps.new }
+    ensures spent { IfErr result (λ e. IsCause (sum_by (rel_weight (goal_rest goals.now level)) here.now.rels) steps.old
+        e) }
+{
+    let _taken = steps.taken();
+    let mut list = Vec::new(alloc);
+    let rels = here.rels.as_slice();
+    for number in 0..rels.len() {
+        let rel = &rels[number];
+        let Ok(short) = u32::try_from(number) else {
+            return Err(Stop::Memory);
+        };
+        let count = goal_choices(goals, rel.goal, level);
+        let mut more = step_rel(store, alloc, rel, short, count, choice, steps)?;
+        let Ok(()) = list.append(&mut more) else {
+            return Err(Stop::Memory);
+        };
+    }
+    Ok(list)
+}
+
+/// The order of candidates: by goal, and then by their pairs.
+fn order(one: &Candidate, other: &Candidate) -> Ordering {
+    match one.rel.goal.cmp(&other.rel.goal) {
+        Ordering::Equal => one.rel.pairs.as_slice().cmp(other.rel.pairs.as_slice()),
+        different => different,
+    }
+}
+
+fn sorted(list: Vec<Candidate>) -> Vec<Candidate>
+    ensures { Thins list.items result.items }
+{
+    let mut list = list;
+    list.sort_unstable_by(|one, other| order(one, other));
+    list
+}
+
+/// Whether the last candidate that was kept has the same relation.
+fn is_repeat(kept: &[Candidate], candidate: &Candidate) -> bool
+    ensures { IsTrue result → HasRel kept.now candidate.now.rel }
+{
+    match kept.last() {
+        Some(last) => {
+            last.rel.goal == candidate.rel.goal
+                && same_pairs(last.rel.pairs.as_slice(), candidate.rel.pairs.as_slice())
+        }
+        None => false,
+    }
+}
+
+/// The candidates in order, without repeats.
+fn thin(alloc: Global, list: Vec<Candidate>) -> Result<Vec<Candidate>, AllocError>
+    ensures { IfOk result (λ kept. Thins list.items kept.items) }
+{
+    let mut kept = Vec::new(alloc);
+    for candidate in sorted(list) {
+        if !is_repeat(kept.as_slice(), &candidate) {
+            kept.push(candidate)?;
+        }
+    }
+    Ok(kept)
+}
+
+/// The macro of these relations.
+fn gather(alloc: Global, domain: Items<u32>, list: Vec<Candidate>) -> Result<Stepped, AllocError>
+    ensures domain { IfOk result (λ s. s.to.domain ≡ domain) }
+    ensures rels { IfOk result (λ s. s.to.rels ≡ map (λ x. x.rel) list.items) }
+    ensures from { IfOk result (λ s. s.from ≡ map (λ x. (x.number, x.choice)) list.items) }
+{
+    let mut rels = Items::new(alloc);
+    let mut from = Items::new(alloc);
+    for candidate in list {
+        from.push((candidate.number, candidate.choice))?;
+        rels.push(candidate.rel)?;
+    }
+    Ok(Stepped {
+        to: Macro { domain, rels },
+        from,
+    })
+}
+
+/// The macro under a choice.
+pub(crate) fn step<L: Label>(
+    store: &Store<L>,
+    alloc: Global,
+    here: &Macro,
+    goals: &[Lsta],
+    level: u32,
+    choice: u32,
+    steps: &mut Steps,
+) -> Result<Stepped, Stop<L>>
+    requires { (left : List ℕ) × IsOfLevel store.now left (goal_rest goals.now level) here.now × (choice < slice_index
+        left 0) }
+    ensures stepped { IfOk result (λ s. IsStepped store.now choice (goal_rest goals.now level)
+        (goal_rest goals.now (level +
+        1)) here.now s) }
+    ensures size { IfOk result (λ s. size s.to + 2 * steps.old.taken ≤ 2 * steps.new.taken) }
+    ensures wide { IfErr result IsNotWide }
+    ensures takes { Takes (weight (goal_rest goals.now level) here.now) steps.old steps.new }
+    ensures spent { IfErr result (λ e. IsCause (weight (goal_rest goals.now level) here.now) steps.old e) }
+{
+    let _taken = steps.taken();
+    let domain = step_domain(store, alloc, here.domain.as_slice(), choice, steps)?;
+    let list = step_rels(store, alloc, here, goals, level, choice, steps)?;
+    let Ok(list) = thin(alloc, list) else {
+        return Err(Stop::Memory);
+    };
+    let Ok(stepped) = gather(alloc, domain, list) else {
+        return Err(Stop::Memory);
+    };
+    Ok(stepped)
+}
