@@ -151,7 +151,8 @@ fn reports(rt: HostRuntime) -> Result<(), Fail> {
         ),
         // A loop: its claim as it is met, again after each turn, and what is behind.
         (
-            b"qubit[1] q;\nbit c;\nh q[0];\nc = measure q[0];\n@invariant inv\nwhile (c) { x q[0]; h q[0]; c = measure q[0]; }",
+            b"qubit[1] q;\nbit c;\nh q[0];\nc = measure q[0];\n@invariant inv\n\
+            while (c) { x q[0]; h q[0]; c = measure q[0]; }",
             b"claim pre = [|0>]; claim inv = [|0>] when c == 0, [|1>] when c == 1; claim post = [|0>];",
             b"1 entry line 6: verified\n2 keep line 6: verified\n3 post: verified\n\
             verified 3, refuted 0, gave up 0\n",

@@ -1,7 +1,15 @@
 ghost use Rattle.std.specs.Prelude.{◌≡◌, map, None, Some};
 ghost use Rattle.std.specs.String.{string_bytes};
 ghost use Rattle.aq_world.specs.Causes.{Rose};
-ghost use Rattle.aq_top.specs.Clauses.{AsksToCheck, IsAnswer, IsJudged, Reports, ToldIsCorrect, TellsTheRun, ReadsFailed};
+ghost use Rattle.aq_top.specs.Clauses.{
+  AsksToCheck,
+  IsAnswer,
+  IsJudged,
+  ReadsFailed,
+  Reports,
+  TellsTheRun,
+  ToldIsCorrect,
+};
 ghost use Rattle.aq_top.specs.Commands.{IsInRange, RunEnd, command_asked, command_of};
 ghost use Rattle.aq_top.specs.Ends.{Ends};
 ghost use Rattle.aq_top.specs.Reads.{ReadFailedOf};
@@ -62,8 +70,8 @@ pub fn run<S: Shelf, K: Sink>(alloc: Global, words: &[String], shelf: &mut S, ou
     ensures all_verified_implies_correct { result ≡ Status.Good
         → ToldIsCorrect (S.meaning.holds shelf.old) (command_asked (map string_bytes words.now)) }
 
-    // Where both files are told and accepted and neither a read nor a write fails, the answer is a report, or memory ran
-    // out.
+    // Where both files are told and accepted and neither a read nor a write fails, the answer is a report, or memory
+    // ran out.
     ensures accepted_files_are_judged { AsksToCheck (S.meaning.holds shelf.old)
         (command_asked (map string_bytes words.now))
         → (Rose (S.meaning.faults shelf.old) (S.meaning.faults shelf.new) → ⊥)

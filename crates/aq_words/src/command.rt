@@ -127,8 +127,9 @@ fn read_trial(alloc: Global, words: &[String]) -> Result<u32, WordsFault>
     }
 }
 
-/// The command that the words after the program's name ask for: the first word, whole, picks it. Usage: there is no first
-/// word, or it names no command, or `clap` refuses the words for another cause than memory. Memory: memory ran out.
+/// The command that the words after the program's name ask for: the first word, whole, picks it. Usage: there is no
+/// first word, or it names no command, or `clap` refuses the words for another cause than memory. Memory: memory ran
+/// out.
 pub fn read_words(alloc: Global, words: &[String]) -> Result<Command, WordsFault>
     ensures command { GivesUnless fault.Memory command_of result
         (or_refuse fault.Usage (command_asked (map string_bytes words.entry.now))) }
