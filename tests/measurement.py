@@ -378,13 +378,6 @@ for words in [
     ["check", "P", "S", "--state", "a"],
 ]:
     CASES.append(("words: " + " ".join(words), words, {"P": "qubit q;", "S": "set a = [|0>];"}, USAGE, 4))
-# the options have one order and one form
-for words in [
-    ["replay", "P", "S", "--outcomes", "", "--state", "a"],
-    ["replay", "--state", "a", "P", "S"],
-    ["replay", "P", "S", "--state=a"],
-]:
-    CASES.append(("words: " + " ".join(words), words, {"P": "qubit q;", "S": "set a = [|0>];"}, USAGE, 4))
 
 # ---- examples/: the files as they lie there
 

@@ -24,9 +24,10 @@ use Rattle.aq_report.specs.Texts.{is_refuted, is_given_up}
 use Rattle.aq_world.specs.Causes.{Rose}
 use Rattle.aq_world.specs.Held.{Held, bytes_at}
 use Rattle.aq_world.specs.Sinks.{SinkMeaning}
-use Rattle.aq_top.specs.Check.{CheckWords, CheckCause, HasNoObligations}
+use Rattle.aq_words.specs.Commands.{CheckWords, Command, Check}
+use Rattle.aq_top.specs.Check.{CheckCause, HasNoObligations}
 use Rattle.aq_top.specs.Clauses.{AsksToCheck, IsJudged}
-use Rattle.aq_top.specs.Commands.{Command, Check, RunEnd}
+use Rattle.aq_top.specs.Commands.{RunEnd}
 use Rattle.aq_top.specs.Ends.{Ends, EndsAs, StoppedBy, refusal_status}
 use Rattle.aq_top.specs.Reads.{HasFault, HasSetFault, IsLonger, MayHold, ProgramCause, SetsCause}
 use Rattle.aq_top.specs.Tasks.{IsTask, Task}
@@ -121,8 +122,9 @@ module _ (laws : TextLaws) (told : Option Held) (RF : List ℕ → Type 0) (no_r
   report_judged false false = tt
 
   pub end_judged : (result : Status) (text : List ℕ) → RunEnd told RF (Some (Check w)) result text → IsJudged result
-  end_judged result text (inl r) = subst IsJudged (sym r.status_is) (report_judged (list_any is_refuted r.verdicts) (list_any is_given_up r.verdicts))
-  end_judged result text (inr r) = subst IsJudged (sym (r.status_is ∙ by_cause r.refusal r.cause)) tt
+  end_judged result text (inl (inl r)) = subst IsJudged (sym r.status_is) (report_judged (list_any is_refuted r.verdicts) (list_any is_given_up r.verdicts))
+  end_judged result text (inl (inr r)) = subst IsJudged (sym (r.status_is ∙ by_cause r.refusal r.cause)) tt
+  end_judged result text (inr r) = subst IsJudged (sym r.0) tt
 
 pub accepted_judged : {S : Type 0} (sink : SinkMeaning S) (old new : S) (laws : TextLaws) (told : Option Held) (RF : List ℕ → Type 0) (words : Option Command) (result : Status)
     → Ends sink old new (RunEnd told RF words) result → AsksToCheck told words → ((name : List ℕ) → RF name → ⊥) → (Rose (sink.faults old) (sink.faults new) → ⊥) → IsJudged result

@@ -1,5 +1,5 @@
 -- How the parts of a run make its ends, and what these say.
-use Rattle.std.proofs.Common.{◌≡◌, ℕ, Bool, true, false, List, length, Option, Some, None, Result, Ok, Err, refl, sym, ap₂, ◌∙◌, subst, ◌⊎◌, inl, inr, if◌then◌else◌}
+use Rattle.std.proofs.Common.{◌≡◌, ℕ, Bool, true, false, List, length, Option, Some, None, Result, Ok, Err, codes, refl, sym, ap, ap₂, ◌∙◌, subst, ◌⊎◌, inl, inr, if◌then◌else◌}
 use Rattle.std.specs.List.{list_any}
 use Rattle.std.specs.Io.KnownBytes.{Appends}
 use Rattle.aq_world.specs.Causes.{Rose}
@@ -35,15 +35,24 @@ use Rattle.aq_report.specs.Verdicts.{AreJustified}
 use Rattle.aq_report.specs.declared.refusal.Refusal.{Refusal}
 use Rattle.aq_report.specs.declared.refusal.Refusal.TheVariants as refusal
 use Rattle.aq_report.specs.declared.verdict.Verdict.{Verdict}
-use Rattle.aq_top.specs.Check.{CheckWords, CheckCause, CheckEnd, IsReport, ReadsObligations, ReadsTask}
-use Rattle.aq_top.specs.Judging.{AreDecided, EndsWithVerdicts, verdicts_status}
+use Rattle.aq_words.specs.Commands.{CheckWords, Command, Check, Replay, ReplayWords, Trial, command_of}
+use Rattle.aq_words.specs.declared.command.Command.{Command as GivenCommand}
+use Rattle.aq_base.specs.Checks.{or_refuse}
+use Rattle.aq_words.specs.declared.command.WordsFault.{WordsFault}
+use Rattle.aq_words.specs.declared.command.WordsFault.TheVariants as words
+use Rattle.aq_top.specs.Check.{CheckCause, CheckEnd, IsReport, ReadsObligations, ReadsTask}
+use Rattle.aq_top.specs.Judging.{AreAnswered, AreDecided, CountsVerdicts, EndsWithVerdicts, IsTally, verdicts_status}
 use Rattle.aq_top.specs.Clauses.{IsAnswer, IsReportOf, StatusSays, TellsTheRun, ToldIsCorrect}
-use Rattle.aq_top.specs.Commands.{Command, Check, Replay, RunEnd}
+use Rattle.aq_top.specs.Commands.{CommandEnd, RunEnd}
 use Rattle.aq_top.specs.Ends.{Ends, EndsAs, IsText, StoppedBy, refusal_status, status_of}
 use Rattle.aq_top.specs.Reads.{MayHold}
-use Rattle.aq_top.specs.Replay.{ReplayWords, ReplayCause, ReplayEnd, IsReplay, ReadsStart, begins}
+use Rattle.aq_top.specs.Replay.{ReplayCause, ReplayEnd, IsReplay, ReadsStart, begins}
+use Rattle.aq_top.specs.Lines.{usage_text}
 use Rattle.aq_top.specs.Tasks.{Task, IsTask, owed_in, program_of, task_of}
-use Rattle.aq_top.proofs.ReportLemmas.{all_true, are_decided}
+use Rattle.aq_top.specs.Trial.{HasNoTextSets, HasNoTextTask, IsTrial, OwesBetween, ProgramTextCause, TextsCause, TrialCause, TrialEnd, trial_line, trial_program, trial_sets}
+use Rattle.aq_base.specs.Limits.{most_steps}
+use Rattle.aq_top.proofs.ReportLemmas.{all_true, are_decided, are_justified}
+use Rattle.aq_top.specs.declared.judging.Tally.{Tally}
 use Rattle.aq_top.specs.declared.status.Status.{Status}
 use Rattle.aq_top.specs.declared.status.Status.TheVariants as status
 
@@ -90,9 +99,10 @@ pub loaded_end : {S : Type 0} (sink : SinkMeaning S) (old new : S) (told : Optio
     → WorldsDecide → ReadsObligations told w p s os → EndsWithVerdicts sink old new w.steps p s os (report os) result → Ends sink old new (CheckEnd told RF w) result
 loaded_end sink old new told RF w p s os result law r e =
     let vs = e.verdicts in
-    let justified = subst (λ (l : List Obligation). AreJustified w.steps p s l vs) r.owed e.justified in
+    let answered = subst (λ (l : List Obligation). AreAnswered w.steps p s l vs) r.owed e.answered in
+    let justified = are_justified w.steps p s (obligations_of p r.claims) vs answered in
     Ends-more sink old new (IsText (verdicts_status vs) (report os vs)) (CheckEnd told RF w) result
-    (λ st text h. report_end told RF w (task_of p s r.claims) vs r.read justified (are_decided w.steps p s law (obligations_of p r.claims) vs justified) st text (subst (λ (l : List Obligation). IsText (verdicts_status vs) (report l vs) st text) r.owed h))
+    (λ st text h. report_end told RF w (task_of p s r.claims) vs r.read justified (are_decided w.steps p s law (obligations_of p r.claims) vs answered) st text (subst (λ (l : List Obligation). IsText (verdicts_status vs) (report l vs) st text) r.owed h))
     e.ends
 
 pub refused_end : (told : Option Held) (RF : List ℕ → Type 0) (w : CheckWords) (r : Refusal) → CheckCause told RF w r
@@ -111,6 +121,59 @@ replay_end told RF w p v outcomes end read replays s text e =
 pub unplayed_end : (told : Option Held) (RF : List ℕ → Type 0) (w : ReplayWords) (r : Refusal) → ReplayCause told RF w r
     → (s : Status) (text : List ℕ) → IsText (refusal_status r) (refusal_text r) s text → ReplayEnd told RF w s text
 unplayed_end told RF w r cause s text e = inr (record { refusal = r; cause = cause; status_is = e.0; text_is = e.1 })
+
+-- ---- trials
+
+-- a line that is said is an end of a trial, and so is a refusal
+trial_line_end : (n : ℕ) (t : Task) (vs : List Verdict) → IsTask (trial_program n) (trial_sets n) (codes "pre") (codes "post") t
+    → AreJustified most_steps t.program t.sets (owed_in t) vs → AreDecided most_steps t.program t.sets (owed_in t) vs
+    → (s : Status) (text : List ℕ) → IsText (verdicts_status vs) (trial_line n vs) s text → TrialEnd n s text
+trial_line_end n t vs says justified decided s text e =
+    inl (record { task = t; says = says; verdicts = vs; justified = justified; decided = decided; status_is = e.0; text_is = e.1 })
+
+-- the line of what was read
+pub trial_end : {S : Type 0} (sink : SinkMeaning S) (old new : S) (n : ℕ) (p : Program) (s : Sets) (os : List Obligation) (t : Tally) (result : Status) → WorldsDecide
+    → OwesBetween (trial_program n) (trial_sets n) p s os → CountsVerdicts most_steps p s os t
+    → ((vs : List Verdict) → IsTally t vs → Ends sink old new (IsText (verdicts_status vs) (trial_line n vs)) result) → Ends sink old new (TrialEnd n) result
+trial_end sink old new n p s os t result law r counted ends =
+    let vs = counted.verdicts in
+    let answered = subst (λ (l : List Obligation). AreAnswered most_steps p s l vs) r.owed counted.answered in
+    let justified = are_justified most_steps p s (obligations_of p r.claims) vs answered in
+    Ends-more sink old new (IsText (verdicts_status vs) (trial_line n vs)) (TrialEnd n) result
+    (trial_line_end n (task_of p s r.claims) vs r.says justified (are_decided most_steps p s law (obligations_of p r.claims) vs answered))
+    (ends vs counted.counts)
+
+pub untried_end : (n : ℕ) (r : Refusal) → TrialCause n r → (s : Status) (text : List ℕ) → IsText (refusal_status r) (refusal_text r) s text → TrialEnd n s text
+untried_end n r cause s text e = inr (record { refusal = r; cause = cause; status_is = e.0; text_is = e.1 })
+
+-- ---- a command line
+
+asked_some : (asked : Option Command) (c : Command) → or_refuse words.Usage asked ≡ Ok c → asked ≡ Some c
+asked_some (Some x) c e = let same : x ≡ c = cc in ap (λ y. Some y) same
+asked_some None c e = absurd (cc e)
+
+asked_none : (asked : Option Command) → or_refuse words.Usage asked ≡ Err words.Usage → asked ≡ None
+asked_none (Some x) e = absurd (cc e)
+asked_none None e = refl
+
+-- the end of a command that is asked for is one of the run
+pub command_ends : {S : Type 0} (sink : SinkMeaning S) (old new : S) (told : Option Held) (RF : List ℕ → Type 0) (asked : Option Command) (c : Command) (result : Status)
+    → or_refuse words.Usage asked ≡ Ok c → Ends sink old new (CommandEnd told RF (Some c)) result → Ends sink old new (RunEnd told RF asked) result
+command_ends sink old new told RF asked c result e ends =
+    Ends-more sink old new (CommandEnd told RF (Some c)) (RunEnd told RF asked) result
+    (λ s t h. inl (subst (λ (x : Option Command). CommandEnd told RF x s t) (sym (asked_some asked c e)) h)) ends
+
+-- so are the usage text, where none is asked for, and want of memory
+pub usage_ends : {S : Type 0} (sink : SinkMeaning S) (old new : S) (told : Option Held) (RF : List ℕ → Type 0) (asked : Option Command) (result : Status)
+    → or_refuse words.Usage asked ≡ Err words.Usage → Ends sink old new (IsText status.Usage usage_text) result → Ends sink old new (RunEnd told RF asked) result
+usage_ends sink old new told RF asked result e ends =
+    Ends-more sink old new (IsText status.Usage usage_text) (RunEnd told RF asked) result
+    (λ s t h. inl (subst (λ (x : Option Command). CommandEnd told RF x s t) (sym (asked_none asked e)) h)) ends
+
+pub memory_ends : {S : Type 0} (sink : SinkMeaning S) (old new : S) (told : Option Held) (RF : List ℕ → Type 0) (asked : Option Command) (result : Status)
+    → Ends sink old new (IsText status.Memory (refusal_text refusal.OutOfMemory)) result → Ends sink old new (RunEnd told RF asked) result
+memory_ends sink old new told RF asked result ends =
+    Ends-more sink old new (IsText status.Memory (refusal_text refusal.OutOfMemory)) (RunEnd told RF asked) result (λ s t h. inr h) ends
 
 -- ---- what a status says
 
@@ -166,11 +229,46 @@ replay_says told RF WF w s text (inl r) =
 replay_says told RF WF w s text (inr r) =
     subst (λ (x : Status). StatusSays told RF WF (Some (Replay w)) x text) (sym r.status_is) (replay_refusal_says told RF WF w r.refusal text r.cause)
 
+trial_line_says : (told : Option Held) (RF : List ℕ → Type 0) (WF : Type 0) (n : ℕ) (refuted given_up : Bool) (text : List ℕ)
+    → IsTrial n (if refuted then status.Refuted else (if given_up then status.GaveUp else status.Good)) text
+    → StatusSays told RF WF (Some (Trial n)) (if refuted then status.Refuted else (if given_up then status.GaveUp else status.Good)) text
+trial_line_says told RF WF n true given_up text r = r
+trial_line_says told RF WF n false true text r = r
+trial_line_says told RF WF n false false text r = r
+
+-- a trial reads no file
+no_read_of : (n : ℕ) (r : Refusal) → refusal_status r ≡ status.Read → TrialCause n r → ⊥
+no_read_of n (refusal.ReadFault file) e (inl cause) = let out = ap refusal_status cause in cc
+no_read_of n (refusal.ReadFault file) e (inr (inl cause)) = cause.2.2
+no_read_of n (refusal.ReadFault file) e (inr (inr (inl sets))) = sets.cause.2.2
+no_read_of n (refusal.ReadFault file) e (inr (inr (inr task))) = task.tells
+no_read_of n refusal.OutOfMemory e cause = cc
+no_read_of n _ e cause = cc
+
+trial_refusal_says : (told : Option Held) (RF : List ℕ → Type 0) (WF : Type 0) (n : ℕ) (r : Refusal) (text : List ℕ) → TrialCause n r
+    → StatusSays told RF WF (Some (Trial n)) (refusal_status r) text
+trial_refusal_says told RF WF n (refusal.ReadFault file) text cause = no_read_of n (refusal.ReadFault file) refl cause
+trial_refusal_says told RF WF n refusal.OutOfMemory text cause = tt
+trial_refusal_says told RF WF n _ text cause = tt
+
+trial_says : (told : Option Held) (RF : List ℕ → Type 0) (WF : Type 0) (n : ℕ) (s : Status) (text : List ℕ) → TrialEnd n s text → StatusSays told RF WF (Some (Trial n)) s text
+trial_says told RF WF n s text (inl r) =
+    subst (λ (x : Status). StatusSays told RF WF (Some (Trial n)) x text) (sym r.status_is)
+    (trial_line_says told RF WF n (list_any is_refuted r.verdicts) (list_any is_given_up r.verdicts) text (subst (λ (x : Status). IsTrial n x text) r.status_is r))
+trial_says told RF WF n s text (inr r) =
+    subst (λ (x : Status). StatusSays told RF WF (Some (Trial n)) x text) (sym r.status_is) (trial_refusal_says told RF WF n r.refusal text r.cause)
+
+command_says : (told : Option Held) (RF : List ℕ → Type 0) (WF : Type 0) (words : Option Command) (s : Status) (text : List ℕ) → CommandEnd told RF words s text
+    → StatusSays told RF WF words s text
+command_says told RF WF None s text e = subst (λ (x : Status). StatusSays told RF WF None x text) (sym e.0) refl
+command_says told RF WF (Some (Check w)) s text e = check_says told RF WF w s text e
+command_says told RF WF (Some (Replay w)) s text e = replay_says told RF WF w s text e
+command_says told RF WF (Some (Trial n)) s text e = trial_says told RF WF n s text e
+
 run_says : (told : Option Held) (RF : List ℕ → Type 0) (WF : Type 0) (words : Option Command) (s : Status) (text : List ℕ) → RunEnd told RF words s text
     → StatusSays told RF WF words s text
-run_says told RF WF None s text e = subst (λ (x : Status). StatusSays told RF WF None x text) (sym e.0) refl
-run_says told RF WF (Some (Check w)) s text e = check_says told RF WF w s text e
-run_says told RF WF (Some (Replay w)) s text e = replay_says told RF WF w s text e
+run_says told RF WF words s text (inl e) = command_says told RF WF words s text e
+run_says told RF WF words s text (inr e) = subst (λ (x : Status). StatusSays told RF WF words x text) (sym e.0) tt
 
 -- what was written goes with what the status says
 pub status_says : {S : Type 0} (sink : SinkMeaning S) (old new : S) (told : Option Held) (RF : List ℕ → Type 0) (words : Option Command) (result : Status)
@@ -248,10 +346,14 @@ some_is x y e = cc
 no_check : (v : ReplayWords) (w : CheckWords) → ◌≡◌ {A = Option Command} (Some (Replay v)) (Some (Check w)) → ⊥
 no_check v w e = cc
 
+trial_is_no_check : (n : ℕ) (w : CheckWords) → ◌≡◌ {A = Option Command} (Some (Trial n)) (Some (Check w)) → ⊥
+trial_is_no_check n w e = cc
+
 -- and its program is correct
 pub report_is_correct : (told : Option Held) (words : Option Command) (text : List ℕ) → TextLaws → TrueThenCorrect BoundCase → IsReportOf told words status.Good text → ToldIsCorrect told words
 report_is_correct told None text laws law r = absurd r
 report_is_correct told (Some (Replay v)) text laws law r = λ held w t told_is words_are says. absurd (no_check v w words_are)
+report_is_correct told (Some (Trial n)) text laws law r = λ held w t told_is words_are says. absurd (trial_is_no_check n w words_are)
 report_is_correct told (Some (Check v)) text laws law r = λ held w t told_is words_are says.
     let same : v ≡ w = some_is v w words_are in
     let read : ReadsTask told w r.task = subst (λ (x : CheckWords). ReadsTask told x r.task) same r.read in

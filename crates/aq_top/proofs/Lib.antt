@@ -5,3 +5,4 @@ pub mod AcceptedLemmas
 pub mod ReadsLemmas
 pub mod ReplayLemmas
 pub mod StateLemmas
+mod TrialLemmas

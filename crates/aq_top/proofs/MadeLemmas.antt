@@ -1,5 +1,5 @@
 -- Obligations that were made: their claims, and that they are few.
-use Rattle.std.proofs.Common.{◌≡◌, ℕ, suc, ◌≤◌, Bool, true, false, ◌||◌, nat_lt, List, [], ◌∷◌, length, map, Option, Ok, Err, refl, ap, sym, subst, arith}
+use Rattle.std.proofs.Common.{◌≡◌, ℕ, suc, ◌≤◌, Bool, true, false, ◌||◌, nat_lt, List, [], ◌∷◌, length, map, codes, Option, Ok, Err, refl, ap, sym, subst, arith}
 use Rattle.std.proofs.lemmas.Bool.Decides.{nat_tests}
 use Rattle.aq_base.specs.Checks.{refuse_if, ◌>>=◌, ◌>>◌}
 use Rattle.aq_base.specs.Limits.{most_fragment_statements, most_obligations}
@@ -12,7 +12,11 @@ use Rattle.aq_owing.specs.Asking.{Asked, Checked, asked}
 use Rattle.aq_owing.specs.Made.{are_too_many, fragment_statements, made, made_obligations, obligations_of, owed_by}
 use Rattle.aq_owing.specs.declared.asked.ObligationFault.TheVariants as faults
 use Rattle.aq_world.specs.Held.{Held}
-use Rattle.aq_top.specs.Check.{CheckWords, ReadsObligations}
+use Rattle.aq_words.specs.Commands.{CheckWords}
+use Rattle.aq_elab.specs.Texts.{SaysProgram}
+use Rattle.aq_set_read.specs.Texts.{SaysSets}
+use Rattle.aq_top.specs.Check.{ReadsObligations}
+use Rattle.aq_top.specs.Trial.{OwesBetween}
 use Rattle.aq_top.specs.Reads.{ReadsProgram, ReadsSets}
 
 -- between which claims they are made
@@ -69,6 +73,18 @@ loaded told w p s os r q e =
         sets_fit = q.fits;
         says = record { program_is = r.says; sets_are = q.says; claims_are = m.claims_are; few = m.few };
       };
+      owed = m.owed;
+      few = subst (λ (l : List Obligation). length l ≤ most_obligations) (sym m.owed) (few_made p m.claims m.few);
+    }
+
+-- what two texts say, and the obligations that were made of it
+pub owes_between : (program sets : List ℕ) (p : Program) (s : Sets) (os : List Obligation) → SaysProgram program p → SaysSets sets s
+    → made_obligations p s (codes "pre") (codes "post") ≡ Ok os → OwesBetween program sets p s os
+owes_between program sets p s os says named e =
+    let m = made_from p s (codes "pre") (codes "post") os e in
+    record {
+      claims = m.claims;
+      says = record { program_is = says; sets_are = named; claims_are = m.claims_are; few = m.few };
       owed = m.owed;
       few = subst (λ (l : List Obligation). length l ≤ most_obligations) (sym m.owed) (few_made p m.claims m.few);
     }

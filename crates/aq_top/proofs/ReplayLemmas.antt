@@ -9,7 +9,8 @@ use Rattle.aq_plain.specs.Replaying.{Replays}
 use Rattle.aq_plain.specs.declared.replay_stop.ReplayStop.{ReplayStop}
 use Rattle.aq_report.specs.declared.refusal.Refusal.{Refusal}
 use Rattle.aq_top.specs.Reads.{ReadFailedOf, ReadsProgram, ReadsSets, SetsCause}
-use Rattle.aq_top.specs.Replay.{ReplayWords, ReplayCause, ReadsStart, begins, HasStateFault, IsStateOf, OutcomesFaultOf, TellsOfReplay, TellsOfSet, outcomes_fault_name, state_fault_name, stop_name}
+use Rattle.aq_words.specs.Commands.{ReplayWords}
+use Rattle.aq_top.specs.Replay.{ReplayCause, ReadsStart, begins, HasStateFault, IsStateOf, OutcomesFaultOf, TellsOfReplay, TellsOfSet, outcomes_fault_name, state_fault_name, stop_name}
 use Rattle.aq_top.specs.declared.outcomes.OutcomesFault.{OutcomesFault}
 use Rattle.aq_top.specs.declared.state.StateFault.{StateFault}
 use Rattle.aq_top.proofs.ReadsLemmas.{SetsCause-later}

@@ -1,6 +1,6 @@
--- The command `check PROG SETS`: its words, what it reads, and how it ends.
-use Rattle.std.specs.Prelude.{◌≡◌, ℕ, ◌≤◌, List, [], ◌∷◌, length, Option, Some, None, Err, ◌⊎◌, codes}
-use Rattle.aq_base.specs.Limits.{most_obligations, most_program_bytes, most_sets_bytes, most_steps}
+-- The command `check PROGRAM SETS`: what it reads, and how it ends.
+use Rattle.std.specs.Prelude.{◌≡◌, ℕ, ◌≤◌, List, length, Option, Some, Err, ◌⊎◌}
+use Rattle.aq_base.specs.Limits.{most_obligations, most_program_bytes, most_sets_bytes}
 use Rattle.aq_world.specs.Held.{Held}
 use Rattle.aq_prog.specs.declared.program.Program.{Program}
 use Rattle.aq_sets.specs.declared.sets.Sets.{Sets}
@@ -15,31 +15,12 @@ use Rattle.aq_report.specs.Verdicts.{AreJustified}
 use Rattle.aq_report.specs.declared.refusal.Refusal.{Refusal}
 use Rattle.aq_report.specs.declared.refusal.Refusal.TheVariants as refusal
 use Rattle.aq_report.specs.declared.verdict.Verdict.{Verdict}
+use Rattle.aq_words.specs.Commands.{CheckWords}
 use Rattle.aq_top.specs.Ends.{IsRefused}
 use Rattle.aq_top.specs.Judging.{AreDecided, verdicts_status}
 use Rattle.aq_top.specs.Reads.{MayHold, ReadsProgram, ReadsSets, ProgramCause, SetsCause}
 use Rattle.aq_top.specs.Tasks.{Task, IsTask, owed_in, task_of}
-use Rattle.aq_top.specs.declared.check.CheckWords.{CheckWords as GivenWords}
 use Rattle.aq_top.specs.declared.status.Status.{Status}
-
--- ---- words
-
--- the files, the names of the two claims, and the limit of steps of each obligation
-pub record CheckWords : Type 0 where
-  pub program : List ℕ
-  pub sets : List ℕ
-  pub pre : List ℕ
-  pub post : List ℕ
-  pub steps : ℕ
-
--- what the words behind `check` ask for, where they are exactly two
-abbrev pub check_words : List (List ℕ) → Option CheckWords
-check_words (program ∷ sets ∷ []) = Some (record { program = program; sets = sets; pre = codes "pre"; post = codes "post"; steps = most_steps })
-check_words _ = None
-
--- what the words that the code keeps ask for
-abbrev pub check_asked : GivenWords → CheckWords
-check_asked words = record { program = words.program.now; sets = words.sets.now; pre = words.pre.now; post = words.post.now; steps = words.steps }
 
 -- ---- what is read
 

@@ -4,10 +4,11 @@ use Rattle.aq_base.specs.Limits.{most_program_bytes, most_sets_bytes}
 use Rattle.std.specs.Io.KnownBytes.{Appends}
 use Rattle.aq_world.specs.Held.{Held, bytes_at}
 use Rattle.aq_obligations.specs.Correct.{IsCorrect}
-use Rattle.aq_top.specs.Check.{CheckWords, IsReport}
-use Rattle.aq_top.specs.Commands.{Command, Check, Replay}
-use Rattle.aq_top.specs.Replay.{ReplayWords, IsReplay}
+use Rattle.aq_words.specs.Commands.{CheckWords, Command, Check, Replay, ReplayWords, Trial}
+use Rattle.aq_top.specs.Check.{IsReport}
+use Rattle.aq_top.specs.Replay.{IsReplay}
 use Rattle.aq_top.specs.Tasks.{Task, IsTask, program_of}
+use Rattle.aq_top.specs.Trial.{IsTrial}
 use Rattle.aq_top.specs.declared.status.Status.{Status}
 use Rattle.aq_top.specs.declared.status.Status.TheVariants as status
 
@@ -19,11 +20,12 @@ IsAnswer status.GaveUp = Unit {0}
 IsAnswer _ = ⊥
 
 -- The words name two files. The text is a report on what these say, with justified verdicts; or, where a replay is asked
--- for, the end of the run that is played.
+-- for, the end of the run that is played; or, where a trial is, the line that counts justified verdicts on its texts.
 abbrev pub IsReportOf : Option Held → Option Command → Status → List ℕ → Type 0
 IsReportOf told None result text = ⊥
 IsReportOf told (Some (Check w)) result text = IsReport told w result text
 IsReportOf told (Some (Replay w)) result text = IsReplay told w result text
+IsReportOf told (Some (Trial n)) result text = IsTrial n result text
 
 -- what the sink's bytes grew by is such a report
 abbrev pub Reports : Option Held → Option Command → Option (List ℕ) → Option (List ℕ) → Status → Type 0
@@ -62,11 +64,12 @@ abbrev pub TellsTheRun : Option Held → Option Command → Option (List ℕ) �
 TellsTheRun told words before after = (w : ReplayWords) → words ≡ Some (Replay w)
     → (written : List ℕ) × Appends before after written × IsReplay told w status.Good written
 
--- a read of one of the files that the words name failed
+-- a read of one of the files that the words name failed; a trial reads none
 abbrev pub ReadsFailed : (List ℕ → Type 0) → Option Command → Type 0
 ReadsFailed ReadFailed None = ⊥
 ReadsFailed ReadFailed (Some (Check w)) = ReadFailed w.program ⊎ ReadFailed w.sets
 ReadsFailed ReadFailed (Some (Replay w)) = ReadFailed w.program ⊎ ReadFailed w.sets
+ReadsFailed ReadFailed (Some (Trial n)) = ⊥
 
 -- What each status says of a run and of what it wrote.
 abbrev pub StatusSays : Option Held → (List ℕ → Type 0) → Type 0 → Option Command → Status → List ℕ → Type 0

@@ -8,3 +8,4 @@ pub mod Lines
 pub mod Reads
 pub mod Replay
 pub mod Tasks
+pub mod Trial

@@ -1,8 +1,6 @@
--- The command `replay PROG SETS --state NAME [--outcomes TEXT]`: its words, what it reads, the run that it plays, and how it
--- ends.
+-- The command `replay PROGRAM SETS --state NAME [--outcomes TEXT]`: what it reads, the run that it plays, and how it ends.
 use Rattle.std.specs.Prelude.{◌≡◌, ℕ, ◌≤◌, ◌==◌, Bool, true, false, List, [], ◌∷◌, length, Option, Some, None, Ok, Err, ◌⊎◌, codes, if◌then◌else◌}
 use Rattle.std.specs.List.{find}
-use Rattle.std.specs.Option.{option_map}
 use Rattle.std.specs.Str.{bytes_eq}
 use Rattle.aq_base.specs.Checks.{CheckedBy, all_checked}
 use Rattle.aq_ring.specs.Fractions.{Amplitude}
@@ -23,42 +21,15 @@ use Rattle.aq_obligations.specs.Correct.{zeros}
 use Rattle.aq_report.specs.Texts.{replay_text}
 use Rattle.aq_report.specs.declared.refusal.Refusal.{Refusal}
 use Rattle.aq_report.specs.declared.refusal.Refusal.TheVariants as refusal
+use Rattle.aq_words.specs.Commands.{ReplayWords}
 use Rattle.aq_top.specs.Ends.{IsRefused}
 use Rattle.aq_top.specs.Reads.{ReadsProgram, ReadsSets, ProgramCause, SetsCause}
 use Rattle.aq_top.specs.declared.outcomes.OutcomesFault.{OutcomesFault}
 use Rattle.aq_top.specs.declared.outcomes.OutcomesFault.TheVariants as digits
-use Rattle.aq_top.specs.declared.replay.ReplayWords.{ReplayWords as GivenWords}
 use Rattle.aq_top.specs.declared.state.StateFault.{StateFault}
 use Rattle.aq_top.specs.declared.state.StateFault.TheVariants as state
 use Rattle.aq_top.specs.declared.status.Status.{Status}
 use Rattle.aq_top.specs.declared.status.Status.TheVariants as status
-
--- ---- words
-
--- the files, the name of a set, and the digits of outcomes
-pub record ReplayWords : Type 0 where
-  pub program : List ℕ
-  pub sets : List ℕ
-  pub state : List ℕ
-  pub outcomes : List ℕ
-
--- the digits that the words behind the set's name ask for: without words there are none
-abbrev pub outcomes_word : List (List ℕ) → Option (List ℕ)
-outcomes_word [] = Some []
-outcomes_word (option ∷ digits ∷ []) = if bytes_eq option (codes "--outcomes") then Some digits else None
-outcomes_word _ = None
-
--- what the words behind `replay` ask for, where they are `PROG SETS --state NAME`, without or with `--outcomes TEXT` behind
-abbrev pub replay_words : List (List ℕ) → Option ReplayWords
-replay_words (program ∷ sets ∷ option ∷ name ∷ rest) =
-    if bytes_eq option (codes "--state")
-    then option_map (λ digits. record { program = program; sets = sets; state = name; outcomes = digits }) (outcomes_word rest)
-    else None
-replay_words _ = None
-
--- the words that the code keeps
-abbrev pub asked_by : GivenWords → ReplayWords
-asked_by words = record { program = words.program.now; sets = words.sets.now; state = words.state.now; outcomes = words.outcomes.now }
 
 -- ---- the state of the start
 

@@ -1,7 +1,5 @@
-//! The command `check PROG SETS`.
-ghost use Rattle.std.specs.Prelude.{◌≡◌, ◌≤◌, All, IfOk, IfErr, IfSome, map};
-ghost use Rattle.std.specs.Option.{option_map};
-ghost use Rattle.std.specs.String.{string_bytes};
+//! The command `check PROGRAM SETS`.
+ghost use Rattle.std.specs.Prelude.{◌≡◌, ◌≤◌, All, IfOk, IfErr};
 ghost use Rattle.aq_base.specs.Limits.{most_steps_asked};
 ghost use Rattle.aq_prog.specs.Programs.{IsValidProgram};
 ghost use Rattle.aq_sets.specs.Caps.{capped_sizes};
@@ -14,9 +12,8 @@ ghost use Rattle.aq_top.specs.Check.{
   ObligationFaultOf,
   ReadsObligations,
   TellsObligationFault,
-  check_asked,
-  check_words,
 };
+ghost use Rattle.aq_words.specs.Commands.{check_of};
 ghost use Rattle.aq_top.specs.Ends.{Ends};
 ghost use Rattle.aq_top.specs.Reads.{ReadFailedOf};
 
@@ -24,47 +21,19 @@ use crate::judging::{Loaded, say_report};
 use crate::read::{load_program, load_sets};
 use crate::say::say_refusal;
 use crate::status::Status;
-use aq_base::MOST_STEPS;
 use aq_correct::laws::worlds;
 use aq_obligations::Obligation;
 use aq_owing::{ObligationFault, make};
 use aq_prog::Program;
 use aq_report::Refusal;
 use aq_sets::{Sets, Size, sizes_of};
+use aq_words::CheckWords;
 use aq_world::{Shelf, Sink};
 use sqlite_items::Items;
 use std::alloc::Global;
 
-/// What the words behind `check` ask for: the files, the names of the two claims, and the limit of steps of each
-/// obligation.
-#[derive(Clone, Copy, Debug)]
-pub(crate) struct CheckWords<'a> {
-    program: &'a str,
-    sets: &'a str,
-    pre: &'a str,
-    post: &'a str,
-    steps: u64,
-}
-
-/// What two words ask for.
-pub(crate) fn check_words<'a>(words: &'a [String]) -> Option<CheckWords<'a>>
-    ensures words { option_map check_asked result ≡ check_words (map string_bytes words.entry.now) }
-    ensures steps { IfSome result (λ w. w.steps ≤ most_steps_asked) }
-{
-    match words {
-        [program, sets] => Some(CheckWords {
-            program: program.as_str(),
-            sets: sets.as_str(),
-            pre: "pre",
-            post: "post",
-            steps: MOST_STEPS,
-        }),
-        _ => None,
-    }
-}
-
 /// Tells why a program has no obligations.
-fn refused_obligations<'a>(fault: ObligationFault) -> Refusal<'a>
+pub(crate) fn refused_obligations<'a>(fault: ObligationFault) -> Refusal<'a>
     ensures { TellsObligationFault fault result }
 {
     let name = fault.name();
@@ -78,29 +47,22 @@ fn refused_obligations<'a>(fault: ObligationFault) -> Refusal<'a>
     }
 }
 
-/// The sizes of the sets, and what the program owes.
-fn make_sized(
+/// The sizes of the sets, and what the program owes between the two claims.
+pub(crate) fn make_sized(
     alloc: Global,
     program: &Program,
     sets: &Sets,
-    words: CheckWords<'_>,
+    pre: &[u8],
+    post: &[u8],
 ) -> Result<(Items<Size>, Items<Obligation>), ObligationFault>
     requires program { IsValidProgram program.now }
     requires sets { IsValidSets sets.now }
     ensures sizes { IfOk result (λ x. x.0 ≡ capped_sizes sets.now.exprs) }
-    ensures made { IfOk result (λ x. made_obligations program.now sets.now (check_asked words.entry).pre
-        (check_asked words.entry).post ≡ Ok x.1) }
+    ensures made { IfOk result (λ x. made_obligations program.now sets.now pre.now post.now ≡ Ok x.1) }
     ensures bound { IfOk result (λ x. All (IsBoundObligation program.now sets.now) x.1) }
-    ensures fault { IfErr result (ObligationFaultOf program.now sets.now (check_asked words.entry).pre
-        (check_asked words.entry).post) }
+    ensures fault { IfErr result (ObligationFaultOf program.now sets.now pre.now post.now) }
 {
-    let obligations = make(
-        alloc,
-        program,
-        sets,
-        words.pre.as_bytes(),
-        words.post.as_bytes(),
-    )?;
+    let obligations = make(alloc, program, sets, pre, post)?;
     let sizes = sizes_of(alloc, sets)?;
     Ok((sizes, obligations))
 }
@@ -108,22 +70,28 @@ fn make_sized(
 /// Reads the program, then the sets, and makes the obligations.
 fn load<'a, S: Shelf>(
     alloc: Global,
-    words: CheckWords<'a>,
+    words: &'a CheckWords,
     shelf: &mut S,
 ) -> Result<Loaded, Refusal<'a>>
-    ensures read { IfOk result (λ l. ReadsObligations (S.meaning.holds shelf.old) (check_asked words.entry) l.program
+    ensures read { IfOk result (λ l. ReadsObligations (S.meaning.holds shelf.old) (check_of words.entry.now) l.program
         l.sets l.obligations) }
     ensures program { IfOk result (λ l. IsValidProgram l.program) }
     ensures sets { IfOk result (λ l. IsValidSets l.sets) }
     ensures sizes { IfOk result (λ l. l.sizes ≡ capped_sizes l.sets.exprs) }
     ensures bound { IfOk result (λ l. All (IsBoundObligation l.program l.sets) l.obligations) }
     ensures cause { IfErr result (CheckCause (S.meaning.holds shelf.old) (ReadFailedOf S.meaning shelf.old shelf.new)
-        (check_asked words.entry)) }
+        (check_of words.entry.now)) }
     ensures held { S.meaning.holds shelf.new ≡ S.meaning.holds shelf.old }
 {
-    let program = load_program(alloc, words.program, shelf)?;
-    let sets = load_sets(alloc, words.sets, shelf)?;
-    match make_sized(alloc, &program, &sets, words) {
+    let program = load_program(alloc, words.program.as_str(), shelf)?;
+    let sets = load_sets(alloc, words.sets.as_str(), shelf)?;
+    match make_sized(
+        alloc,
+        &program,
+        &sets,
+        words.pre.as_str().as_bytes(),
+        words.post.as_str().as_bytes(),
+    ) {
         Ok((sizes, obligations)) => Ok(Loaded {
             program,
             sets,
@@ -137,13 +105,13 @@ fn load<'a, S: Shelf>(
 /// Checks a program against its sets.
 pub(crate) fn check<S: Shelf, K: Sink>(
     alloc: Global,
-    words: CheckWords<'_>,
+    words: &CheckWords,
     shelf: &mut S,
     out: &mut K,
 ) -> Status
-    requires { words.steps ≤ most_steps_asked }
+    requires { words.now.steps ≤ most_steps_asked }
     ensures ends { Ends K.meaning out.old out.new (CheckEnd (S.meaning.holds shelf.old)
-        (ReadFailedOf S.meaning shelf.old shelf.new) (check_asked words.entry)) result }
+        (ReadFailedOf S.meaning shelf.old shelf.new) (check_of words.now)) result }
     ensures held { S.meaning.holds shelf.new ≡ S.meaning.holds shelf.old }
 {
     worlds();

@@ -2,7 +2,8 @@ ghost use Rattle.std.specs.Prelude.{◌≡◌, ◌≢◌, None, Some, map};
 ghost use Rattle.std.specs.String.{string_bytes};
 ghost use Rattle.aq_world.specs.Files.{first_of};
 ghost use Rattle.aq_top.specs.Clauses.{IsAnswer, Reports, TellsTheRun, ToldIsCorrect};
-ghost use Rattle.aq_top.specs.Commands.{RunEnd, command_asked};
+ghost use Rattle.aq_words.specs.Commands.{command_asked};
+ghost use Rattle.aq_top.specs.Commands.{RunEnd};
 ghost use Rattle.aq_top.specs.Ends.{Ends};
 ghost use Rattle.aq_top.specs.Reads.{ReadFailedOf};
 

@@ -9,7 +9,7 @@ ghost use Rattle.aq_world.specs.Prints.{Prints};
 ghost use Rattle.aq_report.specs.Texts.{counts_text, lines_from, report};
 ghost use Rattle.aq_report.specs.declared.verdict.Verdict.{Verdict as VerdictValue};
 ghost use Rattle.aq_top.specs.Ends.{status_of};
-ghost use Rattle.aq_top.specs.Judging.{EndsWithVerdicts, IsTally, PrintsVerdicts, verdicts_status};
+ghost use Rattle.aq_top.specs.Judging.{CountsVerdicts, EndsWithVerdicts, IsTally, PrintsVerdicts, verdicts_status};
 
 use crate::status::Status;
 use aq_judge::judge_by_sizes;
@@ -33,9 +33,9 @@ pub(crate) struct Loaded {
 /// How many verdicts there were of each kind.
 #[derive(Clone, Copy, Debug)]
 pub(crate) struct Tally {
-    verified: u32,
-    refuted: u32,
-    gave_up: u32,
+    pub(crate) verified: u32,
+    pub(crate) refuted: u32,
+    pub(crate) gave_up: u32,
 }
 
 /// With one verdict more.
@@ -68,7 +68,7 @@ fn counted(tally: Tally, verdict: &Verdict) -> Tally
 }
 
 /// The status of a report with so many verdicts.
-fn tally_status(tally: Tally) -> Status
+pub(crate) fn tally_status(tally: Tally) -> Status
     ensures { (vs : List VerdictValue) → IsTally tally vs → result ≡ verdicts_status vs }
 {
     if tally.refuted > 0 {
@@ -78,6 +78,42 @@ fn tally_status(tally: Tally) -> Status
     } else {
         Status::Good
     }
+}
+
+/// No verdict.
+fn no_verdicts() -> Tally
+    ensures { IsTally result [] }
+{
+    Tally {
+        verified: 0,
+        refuted: 0,
+        gave_up: 0,
+    }
+}
+
+/// Judges the obligations in order, and counts the verdicts.
+pub(crate) fn count_verdicts(alloc: Global, loaded: &Loaded, limit: u64) -> Tally
+    requires program { IsValidProgram loaded.now.program }
+    requires sets { IsValidSets loaded.now.sets }
+    requires told { loaded.now.sizes ≡ capped_sizes loaded.now.sets.exprs }
+    requires bound { All (IsBoundObligation loaded.now.program loaded.now.sets) loaded.now.obligations }
+    requires few { length loaded.now.obligations ≤ most_obligations }
+    requires limit { limit ≤ most_steps_asked }
+    ensures { CountsVerdicts limit loaded.now.program loaded.now.sets loaded.now.obligations result }
+{
+    let mut counts = no_verdicts();
+    for owed in loaded.obligations.as_slice() {
+        let verdict = judge_by_sizes(
+            alloc,
+            &loaded.program,
+            &loaded.sets,
+            loaded.sizes.as_slice(),
+            owed,
+            limit,
+        );
+        counts = counted(counts, &verdict);
+    }
+    counts
 }
 
 /// Judges the obligations in order, and prints the lines of each verdict before the next is judged.

@@ -3,7 +3,6 @@
 #![tactic(auto)]
 
 mod check;
-mod command;
 mod honest;
 mod judging;
 mod outcomes;
@@ -13,6 +12,7 @@ mod say;
 mod state;
 mod status;
 mod top;
+mod trial;
 
 pub use honest::run_honest;
 pub use say::say_memory;

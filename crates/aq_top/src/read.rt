@@ -23,7 +23,7 @@ use aq_world::{ReadFault, Shelf};
 use std::alloc::Global;
 
 /// Tells a fault of the program.
-fn refused_program<'a>(fault: ProgramFault) -> Refusal<'a>
+pub(crate) fn refused_program<'a>(fault: ProgramFault) -> Refusal<'a>
     ensures { TellsProgramFault fault result }
 {
     match fault {
@@ -39,7 +39,7 @@ fn refused_program<'a>(fault: ProgramFault) -> Refusal<'a>
 }
 
 /// Tells a fault of the sets.
-fn refused_sets<'a>(fault: &SetFault) -> Refusal<'a>
+pub(crate) fn refused_sets<'a>(fault: &SetFault) -> Refusal<'a>
     ensures { TellsSetFault fault.now result }
 {
     match fault.at() {

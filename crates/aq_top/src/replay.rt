@@ -1,11 +1,11 @@
-//! The command `replay PROG SETS --state NAME [--outcomes TEXT]`.
-ghost use Rattle.std.specs.Prelude.{◌≡◌, ◌≤◌, All, IfErr, IfOk, Err, Ok, length, map};
+//! The command `replay PROGRAM SETS --state NAME [--outcomes TEXT]`.
+ghost use Rattle.std.specs.Prelude.{◌≡◌, IfErr, IfOk, Err, Ok};
 ghost use Rattle.std.specs.Option.{option_map};
-ghost use Rattle.std.specs.String.{string_bytes};
 ghost use Rattle.aq_prog.specs.Programs.{IsValidProgram};
 ghost use Rattle.aq_plain.specs.Replaying.{Replays};
 ghost use Rattle.aq_obligations.specs.Correct.{zeros};
 ghost use Rattle.aq_report.specs.Texts.{replay_text};
+ghost use Rattle.aq_words.specs.Commands.{replay_of};
 ghost use Rattle.aq_top.specs.Ends.{Ends, IsText};
 ghost use Rattle.aq_top.specs.Reads.{ReadFailedOf};
 ghost use Rattle.aq_top.specs.Replay.{
@@ -14,10 +14,7 @@ ghost use Rattle.aq_top.specs.Replay.{
   ReplayEnd,
   TellsOfReplay,
   TellsOfSet,
-  asked_by,
   begins,
-  outcomes_word,
-  replay_words,
   stop_name,
 };
 
@@ -29,59 +26,10 @@ use crate::status::Status;
 use aq_plain::{Played, ReplayStop, Vector};
 use aq_prog::Program;
 use aq_report::{Refusal, print_replay};
+use aq_words::ReplayWords;
 use aq_world::{Shelf, Sink};
 use sqlite_items::Items;
 use std::alloc::{AllocError, Global};
-
-/// What the words behind `replay` name: the files, a set, and the digits of outcomes.
-#[derive(Clone, Copy, Debug)]
-pub(crate) struct ReplayWords<'a> {
-    program: &'a str,
-    sets: &'a str,
-    state: &'a str,
-    outcomes: &'a str,
-}
-
-/// The digits of the outcomes. Without words there are none.
-fn outcomes_word<'a>(words: &'a [String]) -> Option<&'a str>
-    ensures { option_map (λ word. word.now) result ≡ outcomes_word (map string_bytes words.entry.now) }
-{
-    match words {
-        [] => Some(""),
-        [option, digits] => {
-            if option.as_str() == "--outcomes" {
-                Some(digits.as_str())
-            } else {
-                None
-            }
-        }
-        _ => None,
-    }
-}
-
-/// The words of a replay, where there are four, or six.
-pub(crate) fn replay_words<'a>(words: &'a [String]) -> Option<ReplayWords<'a>>
-    ensures { option_map asked_by result ≡ replay_words (map string_bytes words.entry.now) }
-{
-    match words {
-        [program, sets, option, state, rest @ ..] => {
-            if option.as_str() == "--state" {
-                match outcomes_word(rest) {
-                    Some(outcomes) => Some(ReplayWords {
-                        program: program.as_str(),
-                        sets: sets.as_str(),
-                        state: state.as_str(),
-                        outcomes,
-                    }),
-                    None => None,
-                }
-            } else {
-                None
-            }
-        }
-        _ => None,
-    }
-}
 
 /// A program, the vector at its start, and the outcomes of its measurements and resets.
 #[derive(Debug, Drop)]
@@ -129,21 +77,21 @@ fn stop_name(stop: ReplayStop) -> Option<&'static str>
 /// Reads the program, then the sets, finds the one vector of the set, and then reads the outcomes.
 fn load_start<'a, S: Shelf>(
     alloc: Global,
-    words: ReplayWords<'a>,
+    words: &'a ReplayWords,
     shelf: &mut S,
 ) -> Result<Start, Refusal<'a>>
-    ensures read { IfOk result (λ s. ReadsStart (S.meaning.holds shelf.old) (asked_by words.entry)
+    ensures read { IfOk result (λ s. ReadsStart (S.meaning.holds shelf.old) (replay_of words.entry.now)
         s.program s.vector.amps s.outcomes) }
     ensures program { IfOk result (λ s. IsValidProgram s.program) }
     ensures qubits { IfOk result (λ s. s.vector.qubits ≡ s.program.qubits) }
     ensures cause { IfErr result (ReplayCause (S.meaning.holds shelf.old)
-        (ReadFailedOf S.meaning shelf.old shelf.new) (asked_by words.entry)) }
+        (ReadFailedOf S.meaning shelf.old shelf.new) (replay_of words.entry.now)) }
     ensures held { S.meaning.holds shelf.new ≡ S.meaning.holds shelf.old }
 {
-    let program = load_program(alloc, words.program, shelf)?;
-    let sets = load_sets(alloc, words.sets, shelf)?;
-    match state_of(alloc, &program, &sets, words.state.as_bytes()) {
-        Ok(vector) => match outcomes_of(alloc, words.outcomes.as_bytes()) {
+    let program = load_program(alloc, words.program.as_str(), shelf)?;
+    let sets = load_sets(alloc, words.sets.as_str(), shelf)?;
+    match state_of(alloc, &program, &sets, words.state.as_str().as_bytes()) {
+        Ok(vector) => match outcomes_of(alloc, words.outcomes.as_str().as_bytes()) {
             Ok(outcomes) => Ok(Start {
                 program,
                 vector,
@@ -151,7 +99,7 @@ fn load_start<'a, S: Shelf>(
             }),
             Err(fault) => Err(refused_replay(fault.name())),
         },
-        Err(fault) => Err(refused_state(words.state, fault.name())),
+        Err(fault) => Err(refused_state(words.state.as_str(), fault.name())),
     }
 }
 
@@ -198,12 +146,12 @@ fn say_end<K: Sink>(out: &mut K, end: &Played) -> Status
 /// Replays a program from a state of its sets.
 pub(crate) fn replay<S: Shelf, K: Sink>(
     alloc: Global,
-    words: ReplayWords<'_>,
+    words: &ReplayWords,
     shelf: &mut S,
     out: &mut K,
 ) -> Status
     ensures ends { Ends K.meaning out.old out.new (ReplayEnd (S.meaning.holds shelf.old)
-        (ReadFailedOf S.meaning shelf.old shelf.new) (asked_by words.entry)) result }
+        (ReadFailedOf S.meaning shelf.old shelf.new) (replay_of words.now)) result }
     ensures held { S.meaning.holds shelf.new ≡ S.meaning.holds shelf.old }
 {
     match load_start(alloc, words, shelf) {

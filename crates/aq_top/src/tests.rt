@@ -288,6 +288,37 @@ fn refusals_of_sets(rt: HostRuntime) -> Result<(), Fail> {
 }
 
 #[test]
+fn trials(rt: HostRuntime) -> Result<(), Fail> {
+    let alloc = rt.alloc();
+    let rows: [(&str, &[u8], u8); 2] = [
+        (
+            "1",
+            b"trial 1: 4 qubits, 159 gates, verified 1, refuted 0, gave up 0\n",
+            0,
+        ),
+        (
+            "13",
+            b"trial 13: 16 qubits, 639 gates, verified 0, refuted 0, gave up 1\n",
+            2,
+        ),
+    ];
+    for (number, wanted, code) in rows {
+        let mut shelf = HonestShelf {
+            alloc,
+            files: Items::new(alloc),
+        };
+        let mut out = HonestSink {
+            bytes: Text::new(alloc),
+        };
+        let words = words_of(alloc, &["trial", number])?;
+        let status = run_honest(alloc, words.as_slice(), &mut shelf, &mut out);
+        assert_eq!(rt; out.bytes.as_slice(), wanted);
+        assert_eq!(rt; status.code(), code);
+    }
+    Ok(())
+}
+
+#[test]
 fn words_that_ask_for_nothing(rt: HostRuntime) -> Result<(), Fail> {
     let alloc = rt.alloc();
     let mut shelf = HonestShelf {
@@ -476,7 +507,7 @@ fn words_of_no_replay(rt: HostRuntime) -> Result<(), Fail> {
         &["--state"],
         &["--stat", "zero"],
         &["--state", "zero", "--outcomes"],
-        &["--outcomes", "1", "--state", "zero"],
+        &["--outcomes", "--state", "zero"],
         &["--state", "zero", "--outcomes", "1", "1"],
     ];
     for (row, more) in rows.iter().enumerate() {

@@ -1,6 +1,7 @@
 ghost use Rattle.std.specs.Prelude.{◌≡◌, map, None, Some};
 ghost use Rattle.std.specs.String.{string_bytes};
 ghost use Rattle.aq_world.specs.Causes.{Rose};
+ghost use Rattle.aq_words.specs.Commands.{IsInRange, command_asked, command_of};
 ghost use Rattle.aq_top.specs.Clauses.{
   AsksToCheck,
   IsAnswer,
@@ -10,36 +11,33 @@ ghost use Rattle.aq_top.specs.Clauses.{
   TellsTheRun,
   ToldIsCorrect,
 };
-ghost use Rattle.aq_top.specs.Commands.{IsInRange, RunEnd, command_asked, command_of};
+ghost use Rattle.aq_top.specs.Commands.{CommandEnd, RunEnd};
 ghost use Rattle.aq_top.specs.Ends.{Ends};
 ghost use Rattle.aq_top.specs.Reads.{ReadFailedOf};
 
 use crate::check::check;
-use crate::command::{Command, command_asked};
 use crate::replay::replay;
-use crate::say::say_usage;
+use crate::say::{say_memory, say_usage};
 use crate::status::Status;
+use crate::trial::trial;
 use aq_correct::laws::obligations;
 use aq_elab::program_texts;
 use aq_set_read::set_files;
+use aq_words::{Command, WordsFault, read_words};
 use aq_world::{Shelf, Sink};
 use std::alloc::Global;
 
 /// Does what a command says.
-fn obey<S: Shelf, K: Sink>(
-    alloc: Global,
-    command: Command<'_>,
-    shelf: &mut S,
-    out: &mut K,
-) -> Status
-    requires { IsInRange command }
-    ensures ends { Ends K.meaning out.old out.new (RunEnd (S.meaning.holds shelf.old)
-        (ReadFailedOf S.meaning shelf.old shelf.new) (Some (command_of command.entry))) result }
+fn obey<S: Shelf, K: Sink>(alloc: Global, command: &Command, shelf: &mut S, out: &mut K) -> Status
+    requires { IsInRange command.now }
+    ensures ends { Ends K.meaning out.old out.new (CommandEnd (S.meaning.holds shelf.old)
+        (ReadFailedOf S.meaning shelf.old shelf.new) (Some (command_of command.now))) result }
     ensures held { S.meaning.holds shelf.new ≡ S.meaning.holds shelf.old }
 {
     match command {
         Command::Check(words) => check(alloc, words, shelf, out),
         Command::Replay(words) => replay(alloc, words, shelf, out),
+        Command::Trial(number) => trial(alloc, *number, out),
     }
 }
 
@@ -49,20 +47,22 @@ fn answer<S: Shelf, K: Sink>(alloc: Global, words: &[String], shelf: &mut S, out
         (ReadFailedOf S.meaning shelf.old shelf.new) (command_asked (map string_bytes words.now))) result }
     ensures held { S.meaning.holds shelf.new ≡ S.meaning.holds shelf.old }
 {
-    match command_asked(words) {
-        Some(command) => obey(alloc, command, shelf, out),
-        None => say_usage(out),
+    match read_words(alloc, words) {
+        Ok(command) => obey(alloc, &command, shelf, out),
+        Err(WordsFault::Usage) => say_usage(out),
+        Err(WordsFault::Memory) => say_memory(out),
     }
 }
 
 /// Does what the words after the program's name say, over the shelf's files, and writes the answer to the sink.
 ///
-/// The words are `check PROG SETS`, or `replay PROG SETS --state NAME` with or without `--outcomes TEXT` behind it;
-/// other words are answered by the usage text. The status says how it ended: see `Status`. `Memory` may come at any
-/// input, and where memory is wanting while an obligation is judged, that obligation is given up.
+/// The words are `check PROGRAM SETS` with the options `--pre NAME`, `--post NAME` and `--steps N`,
+/// `replay PROGRAM SETS --state NAME` with the option `--outcomes TEXT`, or `trial N`, the options in any order; other
+/// words are answered by the usage text. The status says how it ended: see `Status`. `Memory` may come at any input,
+/// and where memory is wanting while an obligation is judged, that obligation is given up.
 pub fn run<S: Shelf, K: Sink>(alloc: Global, words: &[String], shelf: &mut S, out: &mut K) -> Status
-    // With Good, Refuted and GaveUp, a whole report was written, and its verdicts are justified; or a replay's end,
-    // which goes with Good.
+    // With Good, Refuted and GaveUp, a whole report was written, and its verdicts are justified; or a trial's line,
+    // which counts justified verdicts; or a replay's end, which goes with Good.
     ensures report_is_justified { IsAnswer result → Reports (S.meaning.holds shelf.old)
         (command_asked (map string_bytes words.now)) (K.meaning.told out.old) (K.meaning.told out.new) result }
 

@@ -1,7 +1,11 @@
+use Rattle.aq_top.proofs.EndsLemmas.{command_ends, memory_ends, usage_ends}
 use Rattle.aq_top.proofs.top.answer.Goals as goal
 
-pub returns-in-Some-clause-ends : goal.returns-in-Some-clause-ends
-returns-in-Some-clause-ends g c = rw (← c.in-Some.ensures.command) c.obey.ensures.ends
+pub returns-in-Ok-clause-ends : goal.returns-in-Ok-clause-ends
+returns-in-Ok-clause-ends g c = command_ends _ _ _ _ _ _ _ _ c.in-Ok.ensures.command c.obey.ensures.ends
 
-pub returns-in-None-clause-ends : goal.returns-in-None-clause-ends
-returns-in-None-clause-ends g c = rw (← c.in-None.ensures.command) c.say_usage.ensures
+pub returns-in-Usage-clause-ends : goal.returns-in-Usage-clause-ends
+returns-in-Usage-clause-ends g c = usage_ends _ _ _ _ _ _ _ (c.in-Usage.ensures.command (λ e. cc e)) c.say_usage.ensures
+
+pub returns-in-Memory-clause-ends : goal.returns-in-Memory-clause-ends
+returns-in-Memory-clause-ends g c = memory_ends _ _ _ _ _ _ _ c.say_memory.ensures
