@@ -156,6 +156,12 @@ asked_none : (asked : Option Command) → or_refuse words.Usage asked ≡ Err wo
 asked_none (Some x) e = absurd (cc e)
 asked_none None e = refl
 
+usage_is_known : (e : WordsFault) → e ≡ words.Usage → e ≡ words.Memory → ⊥
+usage_is_known e u m = cc
+
+none_asked : (asked : Option Command) (e : WordsFault) → e ≡ words.Usage → ((e ≡ words.Memory → ⊥) → or_refuse words.Usage asked ≡ Err e) → asked ≡ None
+none_asked asked e u h = asked_none asked (h (usage_is_known e u) ∙ ap (λ x. Err x) u)
+
 -- the end of a command that is asked for is one of the run
 pub command_ends : {S : Type 0} (sink : SinkMeaning S) (old new : S) (told : Option Held) (RF : List ℕ → Type 0) (asked : Option Command) (c : Command) (result : Status)
     → or_refuse words.Usage asked ≡ Ok c → Ends sink old new (CommandEnd told RF (Some c)) result → Ends sink old new (RunEnd told RF asked) result
@@ -164,11 +170,11 @@ command_ends sink old new told RF asked c result e ends =
     (λ s t h. inl (subst (λ (x : Option Command). CommandEnd told RF x s t) (sym (asked_some asked c e)) h)) ends
 
 -- so are the usage text, where none is asked for, and want of memory
-pub usage_ends : {S : Type 0} (sink : SinkMeaning S) (old new : S) (told : Option Held) (RF : List ℕ → Type 0) (asked : Option Command) (result : Status)
-    → or_refuse words.Usage asked ≡ Err words.Usage → Ends sink old new (IsText status.Usage usage_text) result → Ends sink old new (RunEnd told RF asked) result
-usage_ends sink old new told RF asked result e ends =
+pub usage_ends : {S : Type 0} (sink : SinkMeaning S) (old new : S) (told : Option Held) (RF : List ℕ → Type 0) (asked : Option Command) (result : Status) (e : WordsFault)
+    → e ≡ words.Usage → ((e ≡ words.Memory → ⊥) → or_refuse words.Usage asked ≡ Err e) → Ends sink old new (IsText status.Usage usage_text) result → Ends sink old new (RunEnd told RF asked) result
+usage_ends sink old new told RF asked result e u h ends =
     Ends-more sink old new (IsText status.Usage usage_text) (RunEnd told RF asked) result
-    (λ s t h. inl (subst (λ (x : Option Command). CommandEnd told RF x s t) (sym (asked_none asked e)) h)) ends
+    (λ s t k. inl (subst (λ (x : Option Command). CommandEnd told RF x s t) (sym (none_asked asked e u h)) k)) ends
 
 pub memory_ends : {S : Type 0} (sink : SinkMeaning S) (old new : S) (told : Option Held) (RF : List ℕ → Type 0) (asked : Option Command) (result : Status)
     → Ends sink old new (IsText status.Memory (refusal_text refusal.OutOfMemory)) result → Ends sink old new (RunEnd told RF asked) result
@@ -239,9 +245,9 @@ trial_line_says told RF WF n false false text r = r
 -- a trial reads no file
 no_read_of : (n : ℕ) (r : Refusal) → refusal_status r ≡ status.Read → TrialCause n r → ⊥
 no_read_of n (refusal.ReadFault file) e (inl cause) = let out = ap refusal_status cause in cc
-no_read_of n (refusal.ReadFault file) e (inr (inl cause)) = cause.2.2
-no_read_of n (refusal.ReadFault file) e (inr (inr (inl sets))) = sets.cause.2.2
-no_read_of n (refusal.ReadFault file) e (inr (inr (inr task))) = task.tells
+no_read_of n (refusal.ReadFault file) e (inr (inl cause)) = absurd cause.2
+no_read_of n (refusal.ReadFault file) e (inr (inr (inl sets))) = absurd sets.cause.2
+no_read_of n (refusal.ReadFault file) e (inr (inr (inr task))) = absurd task.tells
 no_read_of n refusal.OutOfMemory e cause = cc
 no_read_of n _ e cause = cc
 

@@ -24,10 +24,19 @@ pub no_sets : {S : Type 0} (shelf : ShelfMeaning S) (a b c : S) (told : Option H
 no_sets shelf a b c told w p r read h cause =
     inr (inl (record { program = p; read = read; cause = SetsCause-later told (ReadFailedOf shelf b c) (ReadFailedOf shelf a c) w.sets r (failed_later shelf a b c w.sets h) cause }))
 
-pub no_state : (told : Option Held) (RF : List ℕ → Type 0) (w : ReplayWords) (p : Program) (s : Sets) (f : StateFault) (name : Option (List ℕ)) (r : Refusal)
-    → ReadsProgram told w.program p → ReadsSets told w.sets s → HasStateFault p s w.state f → name ≡ state_fault_name f → TellsOfSet w.state name r → ReplayCause told RF w r
-no_state told RF w p s f name r read sets cause e tells =
-    inr (inr (inl (record { program = p; read = read; sets = s; sets_read = sets; fault = f; cause = cause; tells = subst (λ (n : Option (List ℕ)). TellsOfSet w.state n r) e tells })))
+pub no_state : (told : Option Held) (RF : List ℕ → Type 0) (w : ReplayWords) (p : Program) (s : Sets) (f : StateFault) (set : List ℕ) (name : Option (List ℕ)) (r : Refusal)
+    → ReadsProgram told w.program p → ReadsSets told w.sets s → HasStateFault p s w.state f → set ≡ w.state → name ≡ state_fault_name f → TellsOfSet set name r
+    → ReplayCause told RF w r
+no_state told RF w p s f set name r read sets cause same e tells =
+    inr (inr (inl (record {
+      program = p;
+      read = read;
+      sets = s;
+      sets_read = sets;
+      fault = f;
+      cause = cause;
+      tells = subst (λ (a : List ℕ). TellsOfSet a (state_fault_name f) r) same (subst (λ (n : Option (List ℕ)). TellsOfSet set n r) e tells);
+    })))
 
 pub no_outcomes : (told : Option Held) (RF : List ℕ → Type 0) (w : ReplayWords) (p : Program) (s : Sets) (v : List Amplitude) (f : OutcomesFault) (name : Option (List ℕ)) (r : Refusal)
     → ReadsProgram told w.program p → ReadsSets told w.sets s → IsStateOf p s w.state v → OutcomesFaultOf w.outcomes f → name ≡ outcomes_fault_name f → TellsOfReplay name r

@@ -17,3 +17,9 @@ returns-in-Replay-clause-ends g c =
     let told = g.S.Shelf.meaning.holds c.args.shelf.now in
     let failed = ReadFailedOf g.S.Shelf.meaning c.args.shelf.now c.replay.new.shelf in
     subst (λ (x : Command). Ends g.K.Sink.meaning c.args.out.now c.replay.new.out (CommandEnd told failed (Some (command_of x))) c.replay.result) (sym c.in-Replay.is) c.replay.ensures.ends
+
+pub returns-in-Trial-clause-ends : goal.returns-in-Trial-clause-ends
+returns-in-Trial-clause-ends g c =
+    let told = g.S.Shelf.meaning.holds c.args.shelf.now in
+    let failed = ReadFailedOf g.S.Shelf.meaning c.args.shelf.now c.args.shelf.now in
+    subst (λ (x : Command). Ends g.K.Sink.meaning c.args.out.now c.trial.new.out (CommandEnd told failed (Some (command_of x))) c.trial.result) (sym c.in-Trial.is) c.trial.ensures
