@@ -15,7 +15,6 @@ BEGIN {
   read_table(tab)
   read_words()
   ARGC = 1
-  gates = "id x y z h s sdg t tdg sx p(a) rx(a) ry(a) rz(a) cx CX cy cz ch cp(a) swap ccx cswap"
   most_asked = 1000000000
 }
 
@@ -108,9 +107,8 @@ function help_for(key, word, said) {
   said = filled(said, "{sets}", named["set"] == "" ? "none" : named["set"])
   said = filled(said, "{claims}", named["claim"] == "" ? "none" : named["claim"])
   said = filled(said, "{sets_file}", sets)
-  said = filled(said, "{gates}", gates)
-  said = filled(said, "{word}", word)
-  said = filled(said, "{name}", subject)
+  said = filled(said, "{word}", short(word))
+  said = filled(said, "{name}", short(subject))
   said = filled(said, "{shorter}", option["outcomes"])
   said = filled(said, "{more}", more)
   return filled(said, "{again}", again)
@@ -261,7 +259,7 @@ function head(file, line, column, severity, key, name) {
   name = key
   sub(/^(program|sets|claim|set|replay|run) /, "", name)
   sub(/^refuted .*/, "refuted", name)
-  print printable(file) ":" line ":" column ": " severity ": " name (key in sentence ? ": " filled(sentence[key], "{name}", subject) : "")
+  print printable(file) ":" line ":" column ": " severity ": " name (key in sentence ? ": " filled(sentence[key], "{name}", short(subject)) : "")
 }
 
 # The line, or what is around the place in a long one, and the caret. A character of several bytes takes one column.
@@ -346,50 +344,57 @@ function last_line(text, n, last) {
   return last
 }
 
-# A line with blanks for its comments and quotes, each as long as they are; `inside` says whether a comment is open.
+# A piece of a line with blanks for its comments and quotes. `inside` is the sign with which the open one ends.
 function bare(rest, out, sign, cut) {
   while (1) {
-    if (inside) {
-      cut = index(rest, "*/")
+    if (inside != "") {
+      cut = index(rest, inside)
       if (!cut) return out
-      out = out blanks(cut + 1)
-      rest = substr(rest, cut + 2)
-      inside = 0
+      out = out blanks(cut + length(inside) - 1)
+      rest = substr(rest, cut + length(inside))
+      inside = ""
     }
     if (!match(rest, /\/\/|\/\*|["']/)) return out rest
     sign = substr(rest, RSTART, RLENGTH)
-    out = out substr(rest, 1, RSTART - 1)
+    out = out substr(rest, 1, RSTART + RLENGTH - 1)
     rest = substr(rest, RSTART + RLENGTH)
-    if (sign == "//") return out
-    out = out blanks(length(sign))
-    if (sign == "/*") { inside = 1; continue }
-    cut = index(rest, sign)
-    if (!cut) return out
-    out = out blanks(cut)
-    rest = substr(rest, cut + 1)
+    inside = sign == "//" ? "\n" : sign == "/*" ? "*/" : sign
+    out = substr(out, 1, length(out) - length(sign)) blanks(length(sign))
   }
 }
 
 function blanks(n) {
-  return sprintf("%" n "s", "")
+  while (length(spaces) < n) spaces = spaces spaces "        "
+  return substr(spaces, 1, n)
+}
+
+# Hands on the tokens of a line but those in comments and quotes. A long line is taken in pieces, so that its time grows
+# with its length alone; none ends in the midst of a word or a sign.
+function scan_line(text, line, of_program, at, end, rest, before, token) {
+  for (at = 1; at <= length(text); at = end) {
+    end = at + 2000
+    while (end <= length(text) && substr(text, end - 1, 2) ~ /^[A-Za-z0-9_\/*][A-Za-z0-9_\/*]/) end++
+    rest = bare(substr(text, at, end - at))
+    before = at - 1
+    while (match(rest, /[A-Za-z_][A-Za-z0-9_]*|[0-9]+|[^ \t\r]/)) {
+      token = substr(rest, RSTART, RLENGTH)
+      if (of_program) program_token(token, line, before + RSTART)
+      else sets_token(token, line, before + RSTART)
+      before += RSTART + RLENGTH - 1
+      rest = substr(rest, RSTART + RLENGTH)
+    }
+  }
+  if (inside != "*/") inside = ""
 }
 
 # The program's names, its number of qubits, its first loop, and where a note names a claim first.
-function scan_program(text, line, rest, before, token, is_register) {
+function scan_program(text, line) {
   if (scanned["program"]++) return
-  inside = 0
+  inside = ""
   while (is_plain(program) && (getline text < (path(program))) > 0) {
     line++
-    if (!inside && text ~ /^[ \t\r]*@/) { scan_note(text, line); continue }
-    rest = bare(text)
-    before = 0
-    while (match(rest, /[A-Za-z_][A-Za-z0-9_]*|[0-9]+|[^ \t\r]/)) {
-      token = substr(rest, RSTART, RLENGTH)
-      if (token == "while" && !while_line) { while_line = line; while_column = before + RSTART }
-      before += RSTART + RLENGTH - 1
-      rest = substr(rest, RSTART + RLENGTH)
-      scan_token(token)
-    }
+    if (inside == "" && text ~ /^[ \t\r]*@/) scan_note(text, line)
+    else scan_line(text, line, 1)
   }
   close(path(program))
 }
@@ -401,8 +406,9 @@ function scan_note(text, line, column, name) {
   if (match(name, /^[A-Za-z_][A-Za-z0-9_]*/)) note_place("note", substr(name, 1, RLENGTH), line, column)
 }
 
-# A token of a declaration, which is over with the first one that has no place in it.
-function scan_token(token) {
+# A declaration is over with the first token that has no place in it.
+function program_token(token, line, column) {
+  if (token == "while" && !while_line) { while_line = line; while_column = column }
   if (token ~ /^(qubit|qreg|bit|creg)$/) { declares = token; its_name = its_size = ""; return }
   if (declares == "" || token == "[" || token == "]") return
   if (token ~ /^[0-9]/) its_size = token
@@ -419,8 +425,13 @@ function declare(what) {
   else qubits += its_size == "" ? 1 : its_size
 }
 
+function short(word) {
+  return length(word) > 60 ? substr(word, 1, 60) ".." : word
+}
+
 # A list with one more, of 12 at most.
 function listed(list, what, parts) {
+  what = short(what)
   if (list == "") return what
   if (list ~ / \.\.$/) return list
   return list (split(list, parts, ", ") < 12 ? ", " what : ", ..")
@@ -433,25 +444,22 @@ function note_place(as, name, line, column) {
 }
 
 # The names of sets and claims with their places, and where the file ends.
-function scan_sets(text, line, rest, before, token, as) {
+function scan_sets(text, line) {
   if (scanned["sets"]++) return
-  inside = 0
+  inside = names = ""
   sets_end_line = sets_end_column = 1
   while (is_plain(sets) && (getline text < (path(sets))) > 0) {
     sets_end_line = ++line
     sets_end_column = length(text) + 1
-    rest = bare(text)
-    before = 0
-    while (match(rest, /[A-Za-z_][A-Za-z0-9_]*/)) {
-      token = substr(rest, RSTART, RLENGTH)
-      if (as != "") {
-        named[as] = listed(named[as], token)
-        note_place(as, token, line, before + RSTART)
-      }
-      as = token ~ /^(set|claim)$/ ? token : ""
-      before += RSTART + RLENGTH - 1
-      rest = substr(rest, RSTART + RLENGTH)
-    }
+    scan_line(text, line, 0)
   }
   close(path(sets))
+}
+
+function sets_token(token, line, column) {
+  if (names != "" && token ~ /^[A-Za-z_]/) {
+    named[names] = listed(named[names], token)
+    note_place(names, token, line, column)
+  }
+  names = token ~ /^(set|claim)$/ ? token : ""
 }

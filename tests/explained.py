@@ -164,9 +164,8 @@ def expected(key, file, place):
     caret = "".join("\t" if sign == "\t" else " " for sign in before.decode()) + "^"
     sentence = SENTENCES[key]
     name = key if key.startswith(("read", "out", "gave")) else key.split(" ")[1]
-    subject = re.search(rb"--state (\S+)|(?:claim|@assert)\s+(\w+)$", before)
     head = "%s:%d:%d: error: %s: %s" % (file, line, column, name, sentence)
-    return head, whole, caret, subject
+    return head, whole, caret
 
 
 class Copy:
@@ -183,6 +182,15 @@ class Copy:
             file.write("autoq:\n")
         self.launcher = os.path.join(self.top, "autoq")
         self.release(program)
+
+    def take(self, *names):
+        """Takes files and folders of the repository too."""
+        for name in names:
+            path = os.path.join(self.top, name)
+            if os.path.isdir(os.path.join(TOP, name)):
+                shutil.copytree(os.path.join(TOP, name), path)
+            else:
+                shutil.copy(os.path.join(TOP, name), path)
 
     def release(self, program):
         released = os.path.join(self.top, "release", "autoq-x86_64-linux")
@@ -233,7 +241,7 @@ def wrong_case(copy, program, row):
     if (status, out) != (alone.returncode, alone.stdout):
         return ["printed %r with status %d, and the program alone %r with %d" % (out, status, alone.stdout, alone.returncode)]
     lines = err.split(b"\n")
-    head, whole, caret, _ = expected(key, file, place)
+    head, whole, caret = expected(key, file, place)
     found = []
     shown = lines[0].decode(errors="replace")
     if not re.fullmatch(re.escape(head).replace(re.escape("{name}"), "[a-z]+"), shown):

@@ -44,13 +44,26 @@ KNOWN = {
     "sets": "the names of sets",
     "claims": "the names of claims",
     "sets_file": "SETS",
-    "gates": "the gates of docs/LANGUAGE.md",
     "word": "the word there",
     "name": "NAME",
     "shorter": "the outcomes",
     "more": "try `check` again with ten times the steps",
     "again": "the command that plays it by hand",
 }
+# The limits that the help says.
+LIMITS = [
+    ("program TooLong", "MOST_PROGRAM_BYTES"),
+    ("program TooDeep", "MOST_NESTED"),
+    ("program TooManyQubits", "MOST_QUBITS"),
+    ("program TooManyBits", "MOST_BITS"),
+    ("program TooManyStatements", "MOST_STATEMENTS"),
+    ("sets TooLong", "MOST_SETS_BYTES"),
+    ("sets TooDeep", "MOST_NESTED"),
+    ("sets TooManyNames", "MOST_NAMES"),
+    ("sets QubitCount", "MOST_QUBITS"),
+    ("sets TooManyNodes", "MOST_NODES"),
+    ("run TooManyObligations", "MOST_OBLIGATIONS", "MOST_FRAGMENT_STATEMENTS"),
+]
 HEAD = """# What each refusal says
 
 On a terminal, the launcher `./autoq` explains what the program refused, gave up or refuted ([OUTPUT.md](OUTPUT.md#explanations)). This is what it says, made of `explain/refusals.txt` by `python3 tests/refusals.py --write`. In parentheses stands what it fills in.
@@ -120,6 +133,25 @@ def verdicts():
     return keys | {"refuted " + kind for kind in re.findall(r'b" ([a-z]+)(?: line |: )"', text)}
 
 
+def numbers():
+    """What is wrong with the limits that the table and the launcher say, and with the gates."""
+    with open(os.path.join(TOP, "crates", "aq_base", "src", "limits.rt"), encoding="utf-8") as file:
+        limits = {name: int(n.replace("_", "")) for name, n in re.findall(r"const (MOST_\w+): \w+ = ([0-9_]+);", file.read())}
+    sentences, helps = explained()
+    wrong = []
+    for key, *names in LIMITS:
+        wrong += ["the limit of %s isn't %s" % (key, name) for name in names if "{:,}".format(limits[name]) not in helps[key]["help"]]
+    with open(os.path.join(os.path.dirname(EXPLAINED), "explain.awk"), encoding="utf-8") as file:
+        program = file.read()
+    for name in ("MOST_STEPS", "MOST_STEPS_ASKED", "MOST_PROGRAM_BYTES", "MOST_SETS_BYTES"):
+        wrong += [] if re.search(r"\b%d\b" % limits[name], program) else ["explain.awk lacks %s" % name]
+    gates = {"swap", "cswap"}
+    with open(os.path.join(TOP, "crates", "aq_prog", "src", "table.rt"), encoding="utf-8") as file:
+        gates.update(re.findall(r'name: b"(\w+)"', file.read()))
+    told = helps["program UnknownGate"]["help"].partition("are ")[2].replace("(a)", "").split()
+    return wrong + (["the gates aren't %s" % " ".join(sorted(gates))] if set(told) != gates else [])
+
+
 def shown(text):
     """A text in a cell of the table: what is between backquotes stays, but for the sign that divides cells."""
     text = re.sub(r"\{(\w+)\}", lambda m: "(%s)" % KNOWN[m.group(1)] if m.group(1) in KNOWN else m.group(0), text)
@@ -154,6 +186,7 @@ def found():
     wrong += ["explain/refusals.txt lacks %s" % key for key in sorted(keys - set(sentences))]
     wrong += ["explain/refusals.txt has %s, which nothing prints" % key for key in sorted(set(sentences) - keys)]
     wrong += ["explain/refusals.txt has no help for %s" % key for key in sentences if "help" not in helps[key]]
+    wrong += numbers()
     with open(PAGE, encoding="utf-8") as file:
         if file.read() != page():
             wrong.append("docs/REFUSALS.md isn't that of explain/refusals.txt")
