@@ -471,20 +471,33 @@ def nothing_in_between(copy):
     return found, [(True, b"")] * 2
 
 
+def is_gone(process):
+    """Whether a process ends within some seconds."""
+    for _ in range(100):
+        try:
+            with open("/proc/%d/status" % process) as file:
+                if "State:\tZ" in file.read():
+                    return True
+        except OSError:
+            return True
+        time.sleep(0.05)
+    os.kill(process, signal.SIGKILL)
+    return False
+
+
 def ended_launcher(copy):
     """A launcher that is ended ends the program."""
     copy.stub("echo $$; exec sleep 60")
-    started = copy.start(["check", "P", "S"])
-    program = int(started.stdout.readline())
-    started.send_signal(signal.SIGTERM)
-    started.wait(timeout=10)
-    started.stdout.close()
-    for _ in range(100):
-        if not os.path.exists("/proc/%d" % program) or "State:\tZ" in open("/proc/%d/status" % program).read():
-            return started.returncode, 143
-        time.sleep(0.05)
-    os.kill(program, signal.SIGKILL)
-    return "the program goes on", 143
+    found = []
+    for number in (signal.SIGTERM, signal.SIGINT, signal.SIGHUP):
+        started = copy.start(["check", "P", "S"])
+        program = int(started.stdout.readline())
+        started.send_signal(number)
+        started.wait(timeout=SECONDS)
+        started.stdout.close()
+        started.stderr.close()
+        found.append((started.returncode, is_gone(program)))
+    return found, [(143, True), (130, True), (129, True)]
 
 
 def on_a_terminal(copy):
