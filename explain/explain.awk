@@ -88,17 +88,20 @@ function read_table(file, text, key, cut) {
       sentence[key] = substr(text, cut + 2)
     }
     else if (text ~ /^  help: /) help[key, "help"] = substr(text, 9)
-    else if (match(text, /^  at [^ ]+: /)) help[key, substr(text, 6, RLENGTH - 7)] = substr(text, RLENGTH + 1)
+    else if (match(text, /^  (at|after) [^ ]+: /)) help[key, substr(text, 3, RLENGTH - 4)] = substr(text, RLENGTH + 1)
   }
   close(file)
 }
 
-# The help for a word at the place of a fault, with what is known of the files in it.
+# The help for a word at the place of a fault, or behind the word before it, with what is known of the files in it.
 function help_for(key, word, said) {
-  if ((key, word) in help) said = help[key, word]
-  else if (word ~ /^[0-9]/ && (key, "(number)") in help) said = help[key, "(number)"]
-  else if (word ~ /^["']/ && (key, "(text)") in help) said = help[key, "(text)"]
-  else said = help[key, "help"]
+  said = help_by(key, "at", word)
+  if (said == "" && key ~ / Unexpected$/) {
+    if (key ~ /^sets/) scan_sets()
+    else scan_program()
+    said = help_by(key, "after", before_place)
+  }
+  if (said == "") said = help[key, "help"]
   if (said ~ /\{(names|bits|qubits)\}/) scan_program()
   if (said ~ /\{(sets|claims)\}/) scan_sets()
   said = filled(said, "{names}", declared == "" ? "none" : declared)
@@ -108,10 +111,21 @@ function help_for(key, word, said) {
   said = filled(said, "{claims}", named["claim"] == "" ? "none" : named["claim"])
   said = filled(said, "{sets_file}", sets)
   said = filled(said, "{word}", short(word))
+  said = filled(said, "{before}", short(before_place))
   said = filled(said, "{name}", short(subject))
   said = filled(said, "{shorter}", option["outcomes"])
   said = filled(said, "{more}", more)
   return filled(said, "{again}", again)
+}
+
+function help_by(key, where, word) {
+  if ((key, where " " word) in help) return help[key, where " " word]
+  if (word == "") return help[key, where " (start)"]
+  if (word ~ /^[0-9]/) return help[key, where " (number)"]
+  if (word ~ /^["']/) return help[key, where " (text)"]
+  if (word ~ /^\|./) return help[key, where " (ket)"]
+  if (word ~ /^[A-Za-z_]/) return help[key, where " (word)"]
+  return ""
 }
 
 function filled(text, place, by, cut) {
@@ -249,6 +263,8 @@ function explain(file, line, column, severity, key, text, word) {
   if (line == "") line = column = 1
   if (text == "" && key != "out of memory") text = line_of_file(file, line)
   word = word_at(text, column)
+  place_line = line
+  place_column = column
   head(file, line, column, severity, key)
   if (key ~ / NotUtf8$/) text = substr(text, 1, column - 1) "?"
   if (is_plain(file) && key != "out of memory") show(text, column, 0)
@@ -344,7 +360,7 @@ function last_line(text, n, last) {
   return last
 }
 
-# A piece of a line with blanks for its comments and quotes. `inside` is the sign with which the open one ends.
+# A piece of a line with blanks for its comments and for what is quoted. `inside` is the sign with which the open one ends.
 function bare(rest, out, sign, cut) {
   while (1) {
     if (inside != "") {
@@ -359,7 +375,7 @@ function bare(rest, out, sign, cut) {
     out = out substr(rest, 1, RSTART + RLENGTH - 1)
     rest = substr(rest, RSTART + RLENGTH)
     inside = sign == "//" ? "\n" : sign == "/*" ? "*/" : sign
-    out = substr(out, 1, length(out) - length(sign)) blanks(length(sign))
+    if (length(sign) == 2) out = substr(out, 1, length(out) - 2) "  "
   }
 }
 
@@ -373,11 +389,12 @@ function blanks(n) {
 function scan_line(text, line, of_program, at, end, rest, before, token) {
   for (at = 1; at <= length(text); at = end) {
     end = at + 2000
-    while (end <= length(text) && substr(text, end - 1, 2) ~ /^[A-Za-z0-9_\/*][A-Za-z0-9_\/*]/) end++
+    while (end <= length(text) && substr(text, end - 1, 2) ~ /^[A-Za-z0-9_\/*=|>\200-\377][A-Za-z0-9_\/*=|>\200-\377]/) end++
     rest = bare(substr(text, at, end - at))
     before = at - 1
-    while (match(rest, /[A-Za-z_][A-Za-z0-9_]*|[0-9]+|[^ \t\r]/)) {
+    while (match(rest, /[A-Za-z_][A-Za-z0-9_]*|[0-9]+|==|->|\|[01]+>|[\300-\377][\200-\277]*|[^ \t\r]/)) {
       token = substr(rest, RSTART, RLENGTH)
+      if (line < place_line || line == place_line && before + RSTART < place_column) before_place = token
       if (of_program) program_token(token, line, before + RSTART)
       else sets_token(token, line, before + RSTART)
       before += RSTART + RLENGTH - 1

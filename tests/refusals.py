@@ -45,6 +45,7 @@ KNOWN = {
     "claims": "the names of claims",
     "sets_file": "SETS",
     "word": "the word there",
+    "before": "the word before",
     "name": "NAME",
     "shorter": "the outcomes",
     "more": "try `check` again with ten times the steps",
@@ -69,9 +70,9 @@ HEAD = """# What each refusal says
 On a terminal, the launcher `./autoq` explains what the program refused, gave up or refuted ([OUTPUT.md](OUTPUT.md#explanations)). This is what it says, made of `explain/refusals.txt` by `python3 tests/refusals.py --write`. In parentheses stands what it fills in.
 """
 WORDS = """
-## By the word at the place
+## By the words there
 
-Where one of these words stands at the place, the help is another. `(end)` is the end of the text, `(number)` any number, `(text)` a quoted text.
+Where one of these words stands at the place, or before it, the help is another. `(end)` is the end of the text and `(start)` its start; `(number)`, `(text)`, `(ket)` and `(word)` are a number, a quoted text, a ket and a word that have no line of their own.
 """
 
 
@@ -91,7 +92,7 @@ def explained():
             elif line.startswith("  help: "):
                 helps[key]["help"] = line[len("  help: "):]
             else:
-                word, said = re.fullmatch(r"  at (\S+): (.*)", line).groups()
+                word, said = re.fullmatch(r"  ((?:at|after) \S+): (.*)", line).groups()
                 helps[key][word] = said
     return sentences, helps
 
@@ -174,7 +175,9 @@ def page():
     lines += [WORDS, "| line | word | help |", "|---|---|---|"]
     for key in sentences:
         words = [word for word in helps[key] if word != "help"]
-        lines += ["| %s | `%s` | %s |" % (line_of(key), word.replace("|", "\\|"), shown(helps[key][word])) for word in words]
+        for word in words:
+            where, _, sign = word.partition(" ")
+            lines.append("| %s | %s `%s` | %s |" % (line_of(key), where, sign.replace("|", "\\|"), shown(helps[key][word])))
     return "\n".join(lines) + "\n"
 
 
