@@ -23,7 +23,9 @@ BEGIN {
 NR == 1 && /^refused: / { refusal = $0; next }
 NR == 1 && /^read fault: / { unread = substr($0, 13); next }
 NR == 1 && /^out of memory$/ { explain(program, 1, 1, "error", "out of memory", ""); next }
-command == "check" && /^[0-9]+ (post|(assert|entry|keep) line [0-9]+): (verified|refuted|gave up [a-z]+)$/ { read_verdict() }
+command == "check" && /^[0-9]+ (post|(assert|entry|keep) line [0-9]+): (verified|refuted|gave up [a-z]+)$/ {
+  read_verdict()
+}
 /^  bits / { bits[verdicts] = $2 }
 /^  outcomes / { outcomes[verdicts] = $2 }
 /^  state / { add_term(verdicts, $2, $3) }
@@ -170,16 +172,20 @@ function too_long(file, key, most, text, line, before) {
 function explain_claim(name) {
   scan_program()
   scan_sets()
-  if (("claim", subject) in line_at) explain(sets, line_at["claim", subject], column_at["claim", subject], "error", "claim " name, "")
-  else if (subject != pre && subject != post && ("note", subject) in line_at)
-    explain(program, line_at["note", subject], column_at["note", subject], "error", "claim " name, "")
+  if (("claim", subject) in line_at) explain_name(sets, "claim", "claim " name)
+  else if (subject != pre && subject != post && ("note", subject) in line_at) explain_name(program, "note", "claim " name)
   else explain(sets, sets_end_line, sets_end_column, "error", "claim " name, "")
+}
+
+# At the name that is told.
+function explain_name(file, as, key) {
+  explain(file, line_at[as, subject], column_at[as, subject], "error", key, "")
 }
 
 function explain_set(name, as) {
   scan_sets()
   as = ("set", subject) in line_at ? "set" : "claim"
-  if ((as, subject) in line_at) explain(sets, line_at[as, subject], column_at[as, subject], "error", "set " name, "")
+  if ((as, subject) in line_at) explain_name(sets, as, "set " name)
   else explain(sets, sets_end_line, sets_end_column, "error", "set " name, "")
 }
 
@@ -192,7 +198,7 @@ function explain_replay(name, text, column) {
   if (name == "Wide") {
     subject = option["state"]
     scan_sets()
-    explain(sets, line_at["set", subject], column_at["set", subject], "error", "replay " name, "")
+    explain_name(sets, "set", "replay " name)
     return
   }
   text = option["outcomes"]
@@ -234,18 +240,16 @@ function explain_verdict(at, line, column, text, key) {
 }
 
 # How to play a refutation by hand. Only a program without cuts is played whole: then it owes one obligation.
-function how_again(at, from, words) {
-  from = "[" state[at] "]"
-  words = "--state shown" (outcomes[at] == "-" ? "" : " --outcomes " outcomes[at])
-  if (terms[at] > 32) from = "[..]"
-  if (owed == 1 && kind[at] == "post" && terms[at] <= 32)
-    return "echo 'set shown = " from ";' | " quoted(launcher) " replay " quoted(program) " /dev/stdin " words
-  if (owed == 1 && kind[at] == "post")
-    return "write the state as `set shown = [..];` into a file SHOWN: " quoted(launcher) " replay " quoted(program) " SHOWN " words
-  if (bits[at] ~ /1/)
-    return "play its statements by hand from " from " and these bits; if no run gets there, the claim before it is too weak (docs/INVARIANTS.md)"
-  return "with its statements as a program PART: echo 'set shown = " from ";' | " quoted(launcher) " replay PART /dev/stdin " words \
-    "; if no run gets there, the claim before it is too weak (docs/INVARIANTS.md)"
+function how_again(at, from, whole, played, weak) {
+  from = terms[at] > 32 ? "[..]" : "[" state[at] "]"
+  whole = owed == 1 && kind[at] == "post"
+  weak = "; if no run gets there, the claim before it is too weak (docs/INVARIANTS.md)"
+  if (bits[at] ~ /1/) return "play its statements by hand from " from " and these bits" weak
+  played = quoted(launcher) " replay " (whole ? quoted(program) : "PART") " /dev/stdin --state shown"
+  if (outcomes[at] != "-") played = played " --outcomes " outcomes[at]
+  played = "echo 'set shown = " from ";' | " played
+  if (terms[at] > 32) played = played ", with the state that is shown"
+  return whole ? played : "with its statements as a program PART: " played weak
 }
 
 function with_steps(wanted, said) {
@@ -275,7 +279,8 @@ function head(file, line, column, severity, key, name) {
   name = key
   sub(/^(program|sets|claim|set|replay|run) /, "", name)
   sub(/^refuted .*/, "refuted", name)
-  print printable(file) ":" line ":" column ": " severity ": " name (key in sentence ? ": " filled(sentence[key], "{name}", short(subject)) : "")
+  if (key in sentence) name = name ": " filled(sentence[key], "{name}", short(subject))
+  print printable(file) ":" line ":" column ": " severity ": " name
 }
 
 # The line, or what is around the place in a long one, and the caret. A character of several bytes takes one column.
@@ -386,10 +391,11 @@ function blanks(n) {
 
 # Hands on the tokens of a line but those in comments and quotes. A long line is taken in pieces, so that its time grows
 # with its length alone; none ends in the midst of a word or a sign.
-function scan_line(text, line, of_program, at, end, rest, before, token) {
+function scan_line(text, line, of_program, at, end, rest, before, token, both) {
+  both = "^[A-Za-z0-9_/*=|>\200-\377][A-Za-z0-9_/*=|>\200-\377]"
   for (at = 1; at <= length(text); at = end) {
     end = at + 2000
-    while (end <= length(text) && substr(text, end - 1, 2) ~ /^[A-Za-z0-9_\/*=|>\200-\377][A-Za-z0-9_\/*=|>\200-\377]/) end++
+    while (end <= length(text) && substr(text, end - 1, 2) ~ both) end++
     rest = bare(substr(text, at, end - at))
     before = at - 1
     while (match(rest, /[A-Za-z_][A-Za-z0-9_]*|[0-9]+|==|->|\|[01]+>|[\300-\377][\200-\277]*|[^ \t\r]/)) {

@@ -30,7 +30,7 @@ def as_bytes(text):
     return text.encode() if isinstance(text, str) else text
 
 
-# ---- cases: a key of explain/refusals.txt, the words, the program, the sets, and a part of the help that isn't the table's own
+# ---- cases: a key of explain/refusals.txt, the words, the program, the sets, and a part of the help
 
 CASES = []
 
@@ -74,14 +74,14 @@ of_program("Unexpected", "qubit q;\nh q // one\n\n‸x q;", "maybe a `;` or a `,
 of_program("Unexpected", "bit[3] c; qubit q;\nif (c == ‸5) x q;", "a test is against 0 or 1")
 of_program("Unexpected", "qubit q; /* ( */ ‸; x q;", "a statement begins here")
 of_program("Unexpected", 'include "stdgates.inc" /* ; */ ‸x q;', "a `;` is wanted behind the library")
-of_program("Unexpected", "qubit q;\nu3(pi, ‸0, 0) q;".replace("pi, ‸", "pi‸, "), "an angle ends with `)`")
+of_program("Unexpected", "qubit q;\nu3(pi‸, 0, 0) q;", "an angle ends with `)`")
 of_program("Unexpected", "rx(π‸*2) q;", "an angle ends with `)`")
 of_program("NotTaken", "qubit q; ‸gate g a { }", "the gate's statements at each use")
 of_program("NotTaken", "OPENQASM ‸2.0;", "the version is 3: write `OPENQASM 3.0;`")
 of_program("NotTaken", "include ‸'a: b.inc';", "the library is `include \"stdgates.inc\";`")
 of_program("TooDeep", "if(c)\n" * 65 + "\t‸x q;")
 of_program("UnknownName", REGISTERS + "x ‸r;", "declared in this program: q[2], c[2]")
-of_program("UnknownName", "‸x q;".replace("‸x ", "x ‸"), "declared in this program: none")
+of_program("UnknownName", "x ‸q;", "declared in this program: none")
 of_program("TwiceDeclared", REGISTERS + "bit ‸q;", "q[2], c[2], q")
 of_program("EmptyRegister", REGISTERS + "bit[0] ‸d;")
 of_program("IndexOut", "qubit s; // qubit t;\nx ‸s[0];", ": s")
@@ -107,9 +107,9 @@ of_sets("LongNumber", "set a = all ‸" + "9" * 40 + ";")
 of_sets("BadKet", "claim pre = [‸|02>];")
 of_sets("Unexpected", "claim pre = [|0>]‸", "the text ends in the midst of an item")
 of_sets("Unexpected", "claim pre = [1/‸2|0>];", "a coefficient is divided by `sqrt2` alone")
-of_sets("Unexpected", "claim pre = [1/sqrt2^2‸ |0>];".replace("‸ ", "").replace("sqrt2^2", "‸sqrt"), "the root is one word")
+of_sets("Unexpected", "claim pre = [1/‸sqrt(2)|0>];", "the root is one word")
 of_sets("Unexpected", "claim pre = [|0> + w‸*|1>];", "a ket is wanted behind a coefficient")
-of_sets("Unexpected", "claim pre = [|00> |‸11>];".replace(" |‸", " ‸|"), "`+`, `-` or `]` is wanted here")
+of_sets("Unexpected", "claim pre = [|00> ‸|11>];", "`+`, `-` or `]` is wanted here")
 of_sets("Unexpected", "set ‸w = all 1;", "a name is wanted here")
 of_sets("TooDeep", "set a =\n" + "(" * 64 + "‸(all 1;")
 of_sets("TooManyNames", "".join("set s%d = all 1;\n" % i for i in range(1000)) + "set ‸more = all 1;")
@@ -122,7 +122,11 @@ of_sets("RepeatedKet", "claim pre = [|0> + ‸|0>];")
 of_sets("TooManyNodes", "set a = all 1\n" + "union all 1\n" * 49999 + " ‸union all 1;")
 
 of_claims("UnknownClaim", "‸", says="write `claim pre = ..;` in S, where claims are none")
-of_claims("UnknownClaim", "set post = all 2;\nclaim pre = all 3; // claim post = all 2;‸", says="`claim post = ..;` in S, where claims are pre")
+of_claims(
+    "UnknownClaim",
+    "set post = all 2;\nclaim pre = all 3; // claim post = all 2;‸",
+    says="`claim post = ..;` in S, where claims are pre",
+)
 of_claims(
     "UnknownClaim",
     "claim pre = all 2; claim post = all 3;",
@@ -131,7 +135,8 @@ of_claims(
 )
 of_claims("QubitsDiffer", "claim pre = all 2;\n/* claim post */ claim ‸post = all 3;", says="the program has 2 qubits")
 of_claims("BitUnknown", "claim pre = all 2; claim\n\t‸post = all 2 when c == 0;", says="bits of the program: c[2], d;")
-case("run TooManyObligations", "‸qubit q;\n" + "@assert a\n" * 1000 + "x q;", "claim pre = all 1; claim post = all 1; claim a = all 1;")
+one_qubit = "claim pre = all 1; claim post = all 1; claim a = all 1;"
+case("run TooManyObligations", "‸qubit q;\n" + "@assert a\n" * 1000 + "x q;", one_qubit)
 
 of_set("UnknownSet", "claim ‸zero = all 2; set one = [|11>];", "sets are one;")
 of_set("UnknownSet", "set one = [|11>];‸", "sets are one;")
@@ -300,11 +305,12 @@ def verdict_lines(copy, program, sets, words=()):
 
 
 def help_of_refutation(copy, folder, name):
-    """Plays an example that is refuted, and then the command that the help gives: what it prints, and the end that was shown."""
+    """Plays an example that is refuted, and then the command that the help gives, which is to print the end that was shown."""
     words = ["check", os.path.join(folder, name + ".qasm"), os.path.join(folder, name + ".sets")]
     _, out, err = copy.run(words)
     command = err.decode().split("\n")[3].replace("  help: ", "", 1)
-    played = subprocess.run(["sh", "-c", command], cwd=copy.work, capture_output=True, env=dict(os.environ, AUTOQ_EXPLAIN="never"))
+    silent = dict(os.environ, AUTOQ_EXPLAIN="never")
+    played = subprocess.run(["sh", "-c", command], cwd=copy.work, capture_output=True, env=silent)
     wanted = [line.replace("  end ", "  ", 1)[2:] for line in out.decode().split("\n") if line.startswith("  end ")]
     got = [re.sub("^end ", "", line) for line in played.stdout.decode().split("\n") if line]
     return [] if got == wanted and played.returncode == 0 else ["%r printed %r, wanted %r" % (command, got, wanted)]
@@ -330,7 +336,8 @@ def given_up(copy):
     program = "qubit[8] q;\nx q;\n\n"
     _, out, lines = verdict_lines(copy, program, "claim pre = all 8; claim post = all 8;")
     wanted = ["P:2:1: warning: gave up steps: " + SENTENCES["gave up steps"], "  x q;", "  ^"]
-    return (out.split("\n")[0], lines[:3], "`%s check P S --steps 200000000`" % repr(copy.launcher) in lines[3]), ("1 post: gave up steps", wanted, True)
+    again = "`%r check P S --steps 200000000`" % copy.launcher in lines[3]
+    return (out.split("\n")[0], lines[:3], again), ("1 post: gave up steps", wanted, True)
 
 
 def given_up_for_width(copy):
@@ -408,8 +415,9 @@ def output_that_fails(copy):
     found = []
     for end in (">&-", ">/dev/full"):
         command = ["sh", "-c", '"$@" ' + end, "sh", copy.launcher, "check", "P", "S"]
-        environment = dict(os.environ, AUTOQ_EXPLAIN="always")
-        found.append(subprocess.run(command, cwd=copy.work, env=environment, stderr=subprocess.DEVNULL, timeout=SECONDS).returncode)
+        always = dict(os.environ, AUTOQ_EXPLAIN="always")
+        done = subprocess.run(command, cwd=copy.work, env=always, stderr=subprocess.DEVNULL, timeout=SECONDS)
+        found.append(done.returncode)
     reading, writing = os.pipe()
     os.close(reading)
     found.append(copy.run(["check", "P", "S"], stdout=writing)[0])
@@ -434,7 +442,8 @@ def ends_that_are_closed(copy):
     found = []
     for ends in ("<&-", "2>&-", "<&- 2>&-"):
         command = ["sh", "-c", '"$@" ' + ends, "sh", copy.launcher, "check", "P", "S"]
-        done = subprocess.run(command, cwd=copy.work, env=dict(os.environ, AUTOQ_EXPLAIN="always"), capture_output=True, timeout=SECONDS)
+        always = dict(os.environ, AUTOQ_EXPLAIN="always")
+        done = subprocess.run(command, cwd=copy.work, env=always, capture_output=True, timeout=SECONDS)
         found.append((done.returncode, done.stdout))
     return found, [(3, b"refused: program 1:8: Unexpected\n")] * 3
 
@@ -444,18 +453,21 @@ def program_on_standard_input(copy):
     copy.write("S", "")
     started = copy.start(["check", "/dev/stdin", "S"], stdin=subprocess.PIPE)
     out, err = started.communicate(b"qubit q", timeout=SECONDS)
-    wanted = "/dev/stdin:1:8: error: Unexpected: %s\n  help: %s\n" % (SENTENCES["program Unexpected"], HELPS["program Unexpected"]["(end)"])
+    key = "program Unexpected"
+    wanted = "/dev/stdin:1:8: error: Unexpected: %s\n  help: %s\n" % (SENTENCES[key], HELPS[key]["at (end)"])
     return (out, err.decode()), (b"refused: program 1:8: Unexpected\n", wanted)
 
 
 def names_with_signs(copy):
     """Files with blanks and signs in their names, and one that begins with a sign of options."""
-    found = []
+    found, wanted = [], []
     for name in ("a b", "it's", "-"):
         copy.write(name, "qubit q")
         _, _, err = copy.run(["check", name, "S"])
         found.append(err.decode().split("\n")[:3])
-    return found, [["%s:1:8: error: Unexpected: %s" % (name, SENTENCES["program Unexpected"]), "  qubit q", "         ^"] for name in ("a b", "it's", "-")]
+        head = "%s:1:8: error: Unexpected: %s" % (name, SENTENCES["program Unexpected"])
+        wanted.append([head, "  qubit q", "         ^"])
+    return found, wanted
 
 
 def long_line(copy):
@@ -464,7 +476,8 @@ def long_line(copy):
     _, _, err = copy.run(["check", "P", "S"])
     lines = err.decode().split("\n")
     at = lines[1].index("g q;")
-    return (lines[2].index("^"), lines[1].startswith("  ..é"), lines[1].endswith("ü.."), "\x1b" in lines[1], len(lines[1]) < 110), (at, True, True, False, True)
+    cut = lines[1].startswith("  ..é") and lines[1].endswith("ü..") and len(lines[1]) < 110
+    return (lines[2].index("^"), cut, "\x1b" in lines[1]), (at, True, False)
 
 
 def nothing_in_between(copy):
@@ -552,4 +565,11 @@ OTHERS = [
     on_a_terminal,
 ]
 # Examples with one obligation, which is refuted.
-REFUTED = ["bell_wrong_sign", "half_turn", "teleportation_unturned", "fourier_unturned", "two_bells_twins", "toffoli_by_t_wrong_phase"]
+REFUTED = [
+    "bell_wrong_sign",
+    "half_turn",
+    "teleportation_unturned",
+    "fourier_unturned",
+    "two_bells_twins",
+    "toffoli_by_t_wrong_phase",
+]
