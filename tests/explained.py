@@ -216,7 +216,7 @@ class Copy:
         """Takes a shell script as the program."""
         path = os.path.join(self.work, "stub")
         with open(path, "w") as file:
-            file.write("#!/bin/sh\n" + text + "\n")
+            file.write("#!/bin/sh\n[ $# = 0 ] && exit 4\n" + text + "\n")
         self.release(path)
 
     def write(self, name, content):

@@ -19,7 +19,7 @@ echo >>"$TOP/builds"
 grep -q wrong "$TOP/read" && { echo "not proved" >&2; exit 1; }
 grep -q slow "$TOP/read" && sleep 2
 mkdir -p out || exit 1
-{ echo '#!/bin/sh'; echo '[ "$2" = /dev/null ] && echo "refused: program 1:1: NoQubits" && exit 3'; \\
+{ echo '#!/bin/sh'; echo '[ $# = 0 ] && exit 4'; echo '[ "$2" = /dev/null ] && echo "refused: program 1:1: NoQubits" && exit 3'; \\
   echo "echo $(cat "$TOP/read")"; } >out/autoq || exit 1
 chmod +x out/autoq
 [ "$1" = ci ] && echo "1 passed, 0 failed" && exit
@@ -259,6 +259,20 @@ def released_program_on_another_machine(copy):
     return copy.run(), (0, "one\n", True)
 
 
+def released_program_that_does_not_run(copy):
+    """As where the C library is too old for it: it isn't run, though its hash and its sources' are right."""
+    copy.release()
+    copy.forget()
+    released = os.path.join(copy.top, "release", "autoq-x86_64-linux")
+    with open(released, "w") as file:
+        file.write("#!/bin/sh\necho wrong version\nexit 1\n")
+    with open(os.path.join(copy.top, "release", "MANIFEST")) as file:
+        manifest = file.read()
+    manifest = manifest.replace(manifest.split()[1], copy.play("sha256sum", released)[1].split()[0])
+    copy.write("release/MANIFEST", manifest)
+    return copy.run(), (0, "one\n", True)
+
+
 def only_built_beside_a_release(copy):
     copy.release()
     copy.forget()
@@ -403,6 +417,7 @@ CASES = [
     changed_released_program,
     released_program_without_manifest,
     released_program_on_another_machine,
+    released_program_that_does_not_run,
     only_built_beside_a_release,
     read_only_checkout,
     link_to_the_launcher,
