@@ -11,8 +11,8 @@
 # A file is read again only where it is a plain one.
 
 BEGIN {
-  tab = ARGV[1]; launcher = ARGV[2]
-  read_table(tab)
+  read_table(ARGV[1])
+  launcher = ARGV[2]
   read_words()
   ARGC = 1
   most_asked = 1000000000
@@ -36,15 +36,14 @@ END {
   for (at = 1; at <= verdicts; at++) explain_verdict(at)
 }
 
+# Of the obligations that aren't verified: what each is for, its line, 0 at the end, and the verdict.
 function read_verdict(parts) {
-  verdicts++
   owed++
-  kind[verdicts] = $2
-  sub(/:$/, "", kind[verdicts])
-  line_of[verdicts] = $2 == "post:" ? 0 : $4 + 0
   split($0, parts, ": ")
-  verdict[verdicts] = parts[2]
-  if (parts[2] == "verified") verdicts--
+  if (parts[2] == "verified") return
+  verdict[++verdicts] = parts[2]
+  kind[verdicts] = $2 == "post:" ? "post" : $2
+  line_of[verdicts] = $2 == "post:" ? 0 : $4 + 0
 }
 
 # One more amplitude of the state from which a refutation begins, as a term of a bracket.
@@ -115,7 +114,7 @@ function help_for(key, word, said) {
   said = filled(said, "{word}", short(word))
   said = filled(said, "{before}", short(before_place))
   said = filled(said, "{name}", short(subject))
-  said = filled(said, "{shorter}", option["outcomes"])
+  said = filled(said, "{outcomes}", option["outcomes"])
   said = filled(said, "{more}", more)
   return filled(said, "{again}", again)
 }
@@ -220,9 +219,9 @@ function explain_read_fault(why) {
 # ---- verdicts
 
 function explain_verdict(at, line, column, text, key) {
-  line = line_of[at]
-  if (line == 0) line = last_line()
-  text = line_of_file(program, line)
+  read_lines()
+  line = line_of[at] ? line_of[at] : last_line
+  text = lines[line]
   column = 1
   if (kind[at] == "assert") column = index(text, "@")
   else if (kind[at] == "post") { if (match(text, /[^ \t\r]/)) column = RSTART }
@@ -354,15 +353,15 @@ function line_of_file(file, line, text, n) {
   return text
 }
 
-# The program's last line that isn't blank.
-function last_line(text, n, last) {
-  last = 1
+# All lines of the program, and the number of the last one that isn't blank.
+function read_lines(text, n) {
+  if (last_line) return
+  last_line = 1
   while (is_plain(program) && (getline text < (path(program))) > 0) {
-    n++
-    if (text ~ /[^ \t\r]/) last = n
+    lines[++n] = text
+    if (text ~ /[^ \t\r]/) last_line = n
   }
   close(path(program))
-  return last
 }
 
 # A piece of a line with blanks for its comments and for what is quoted. `inside` is the sign with which the open one ends.

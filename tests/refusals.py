@@ -47,7 +47,7 @@ KNOWN = {
     "word": "the word there",
     "before": "the word before",
     "name": "NAME",
-    "shorter": "the outcomes",
+    "outcomes": "the outcomes",
     "more": "try `check` again with ten times the steps",
     "again": "the command that plays it by hand",
 }
