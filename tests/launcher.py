@@ -285,7 +285,6 @@ def read_only_checkout(copy):
     copy.forget()
     copy.hide_builder()
     folder = os.path.dirname(copy.top)
-    os.chmod(os.path.dirname(folder), 0o755)
     subprocess.run(["chmod", "-R", "a-w,a+rX", folder], check=True)
     command = [os.path.join(copy.top, "autoq"), "check"]
     if os.geteuid() == 0 and shutil.which("setpriv"):
