@@ -458,6 +458,16 @@ def program_on_standard_input(copy):
     return (out, err.decode()), (b"refused: program 1:8: Unexpected\n", wanted)
 
 
+def files_on_descriptors(copy):
+    """Descriptors that the launcher was given are the program's too."""
+    copy.write("P", "qubit q;")
+    copy.write("S", "claim pre = all 1; claim post = [|0>];")
+    command = '"$1" check /dev/fd/4 /dev/fd/5 4<P 5<S; "$1" check <(cat P) <(cat S)'
+    always = dict(os.environ, AUTOQ_EXPLAIN="always")
+    done = subprocess.run(["bash", "-c", command, "bash", copy.launcher], cwd=copy.work, env=always, capture_output=True)
+    return (done.returncode, done.stdout.count(b"1 post: refuted\n")), (1, 2)
+
+
 def names_with_signs(copy):
     """Files with blanks and signs in their names, and one that begins with a sign of options."""
     found, wanted = [], []
@@ -558,6 +568,7 @@ OTHERS = [
     reader_that_leaves,
     ends_that_are_closed,
     program_on_standard_input,
+    files_on_descriptors,
     names_with_signs,
     long_line,
     nothing_in_between,
