@@ -244,7 +244,7 @@ function how_again(at, from, whole, played, weak) {
   whole = owed == 1 && kind[at] == "post"
   weak = "; if no run gets there, the claim before it is too weak (docs/INVARIANTS.md)"
   if (bits[at] ~ /1/) return "play its statements by hand from " from " and these bits" weak
-  played = quoted(launcher) " replay " (whole ? quoted(program) : "PART") " /dev/stdin --state shown"
+  played = quoted(launcher) " replay " (whole ? file_word(program) : "PART") " /dev/stdin --state shown"
   if (outcomes[at] != "-") played = played " --outcomes " outcomes[at]
   played = "echo 'set shown = " from ";' | " played
   if (terms[at] > 32) played = played ", with the state that is shown"
@@ -253,7 +253,7 @@ function how_again(at, from, whole, played, weak) {
 
 function with_steps(wanted, said) {
   if (wanted > most_asked) wanted = most_asked
-  said = quoted(launcher) " check " quoted(program) " " quoted(sets)
+  said = quoted(launcher) " check " file_word(program) " " file_word(sets)
   if ("pre" in option) said = said " --pre " quoted(option["pre"])
   if ("post" in option) said = said " --post " quoted(option["post"])
   return said sprintf(" --steps %.0f", wanted)
@@ -332,6 +332,11 @@ function quoted(word, parts, n, i, said) {
   said = "'" parts[1]
   for (i = 2; i <= n; i++) said = said "'\\''" parts[i]
   return said "'"
+}
+
+# A file as a word of a command, where it isn't to look like an option.
+function file_word(file) {
+  return quoted(file ~ /^-/ ? "./" file : file)
 }
 
 function holds(test, file) {

@@ -361,11 +361,11 @@ def options_in_front(copy):
     """The files are found behind options, the claims by their names, and the limit is raised to the greatest one."""
     copy.stub('echo "1 post: gave up steps"; exit 2')
     copy.write("P", "qubit q;")
-    copy.write("S", "")
-    words = ["check", "--steps=900000000", "--pre", "a b", "P", "S"]
+    words = ["check", "--steps=900000000", "--pre", "a b", "--", "P", "-s"]
     _, _, err = copy.run(words)
-    wanted = "check P S --pre 'a b' --steps 1000000000`"
+    wanted = "check P ./-s --pre 'a b' --steps 1000000000`"
     copy.stub('echo "refused: claim start: UnknownClaim"; exit 3')
+    copy.write("S", "")
     _, _, told = copy.run(["check", "--pre", "start", "--", "P", "S"])
     return (wanted in err.decode(), told.decode().split("\n")[0]), (
         True,
