@@ -1,0 +1,4 @@
+pub mod Growth
+pub mod Budgets
+pub mod Products
+pub mod Tensors
