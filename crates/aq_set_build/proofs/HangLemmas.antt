@@ -106,7 +106,6 @@ module _ (below : Lsta) where
       (same_parts _ _ _ _ [] (sym (tree-short start m s id t)) refl (tensor_none (vector_of start below [])))
       (λ c word le. same_parts _ _ _ _ [] (sym (tree-beyond start m s id c (take (length s) word) t le)) refl (tensor_none (vector_of start below (drop (length s) word)))))
 
-
   -- ---- causes
   hang_cause_kept : (old new : Table) → Extends old new → (shape : List ℕ) (id : ℕ) → HasShape old shape id → FitsStore old below → (l r : Amplitude) → IsHangCause new below id l r → IsHangCause old below id l r
   hang_cause_kept old new x shape id s f l r h = record {

@@ -4,3 +4,6 @@ pub mod ProductLemmas
 pub mod ScaleLemmas
 pub mod HangLemmas
 pub mod WeightLemmas
+pub mod HalfLemmas
+pub mod FamilyLemmas
+pub mod KetLemmas

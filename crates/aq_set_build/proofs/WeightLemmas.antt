@@ -81,7 +81,6 @@ budget_most e [] some = let one : 2 ^ 0 ≡ 1 = refl in omega (arith, one)
 budget_most e (n ∷ shape) some =
     rw (power (length shape)) (node_budget e n (many shape) (2 ^ length shape) (walk_budget e shape) some.0 (many_some shape some.1) (budget_most e shape some.1))
 
-
 -- a walk over the left shape with a walk over the right one at each leaf
 pub hang_budget : (l r : List ℕ) → AreSome l → AreSome r → walk_budget (walk_budget 1 r + 1) l ≤ 2 * weight (l ++ r)
 hang_budget l r sl sr =
@@ -93,8 +92,8 @@ hang_budget l r sl sr =
     let f = leaves-append l r in
     let le : many r ≤ x = (let z = mul-le-mul_left (many r) (power_some (length r)) in omega arith) in
     let wide : walk_budget (walk_budget 1 r + 1) l ≤ 4 * (v * x) = (
-      let c : walk_budget 1 r + 3 ≤ 4 * x = (let s = many_some r sr in omega arith) in
-      let d = mul-le-mul_right v c in
-      omega arith
+    let c : walk_budget 1 r + 3 ≤ 4 * x = (let s = many_some r sr in omega arith) in
+    let d = mul-le-mul_right v c in
+    omega arith
     ) in
     omega arith

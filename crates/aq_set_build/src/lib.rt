@@ -1,7 +1,11 @@
 //! Level-synchronized tree automata of the expressions of set files.
 #![tactic(auto)]
 
+mod basis;
+mod bracket;
 mod scaling;
 mod tensors;
 
+pub use basis::all;
+pub use bracket::kets;
 pub use tensors::tensor;
