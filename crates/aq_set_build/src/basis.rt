@@ -1,11 +1,9 @@
 //! Automata of all basis states.
 ghost use Rattle.std.specs.Prelude.{◌≡◌, ℕ, ◌+◌, ◌*◌, ◌<◌, ◌≤◌, replicate, IfOk, IfErr};
 ghost use Rattle.aq_store.specs.Nodes.{total_cost};
-ghost use Rattle.aq_sets.specs.Vectors.{basis_vector};
-ghost use Rattle.aq_sets.specs.Sizes.{number_of};
 ghost use Rattle.aq_set_build.specs.Growth.{Grows, StopsFor};
 ghost use Rattle.aq_set_build.specs.Families.{IsFamily};
-ghost use Rattle.aq_set_build.specs.Bases.{IsBasis, IsNothing};
+ghost use Rattle.aq_set_build.specs.Bases.{numbered, IsBasis, IsNothing};
 
 use aq_ring::Amp;
 use aq_store::{Id, Lsta, Steps, Stop, Store};
@@ -44,8 +42,7 @@ pub fn all(
 ) -> Result<Lsta, Stop<Amp>>
     requires some { 0 < qubits }
     requires paid { total_cost store.old ≤ steps.old.taken }
-    ensures made { let vector = λ word. basis_vector qubits (number_of word) in
-        IfOk result (IsFamily vector store.new (replicate qubits 2)) }
+    ensures made { IfOk result (IsFamily (numbered qubits) store.new (replicate qubits 2)) }
     ensures grows { Grows (4 * qubits) store.old store.new steps.old steps.new }
     ensures stops { IfErr result (StopsFor (λ l r. ⊥) (4 * qubits) steps.old steps.new) }
 {
