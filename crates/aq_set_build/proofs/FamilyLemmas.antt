@@ -69,12 +69,11 @@ one_height table shape l r p q =
 
 pub two_heights : (table : Table) (shape : List ℕ) (l r m s : ℕ) → HasShape table shape l → HasShape table shape r → HasShape table shape m → HasShape table shape s
     → (h : ℕ) × EachPair (HasHeight table h) ((l, r) ∷ (m, s) ∷ [])
-two_heights table shape l r m s p q u v =
-    (
-      length shape,
-      EachPair-more (HasHeight table (length shape)) l r ((m, s) ∷ []) (shape_height table shape l p) (shape_height table shape r q)
-          (EachPair-more (HasHeight table (length shape)) m s [] (shape_height table shape m u) (shape_height table shape s v) (EachPair-none (HasHeight table (length shape)))),
-    )
+two_heights table shape l r m s p q u v = (
+  length shape,
+  EachPair-more (HasHeight table (length shape)) l r ((m, s) ∷ []) (shape_height table shape l p) (shape_height table shape r q)
+      (EachPair-more (HasHeight table (length shape)) m s [] (shape_height table shape m u) (shape_height table shape s v) (EachPair-none (HasHeight table (length shape)))),
+)
 
 -- the automaton of a place
 pub is_family : (f : List ℕ → Vector) (table : Table) (shape levels : List ℕ) (made : Lsta) → made.shape.items ≡ levels → shape ≡ levels → Gives f table shape made.root → IsFamily f table levels made

@@ -7,3 +7,4 @@ pub mod WeightLemmas
 pub mod HalfLemmas
 pub mod FamilyLemmas
 pub mod KetLemmas
+pub mod PowerLemmas

@@ -5,3 +5,4 @@ pub mod Tensors
 pub mod Families
 pub mod Brackets
 pub mod Bases
+pub mod Powers

@@ -3,9 +3,11 @@
 
 mod basis;
 mod bracket;
+mod powers;
 mod scaling;
 mod tensors;
 
 pub use basis::all;
 pub use bracket::kets;
+pub use powers::power;
 pub use tensors::tensor;

@@ -18,14 +18,14 @@ kets_at-returns-then-height-eq0-clause-made t c =
 pub kets_at-side_at-requires : goal.kets_at-side_at-requires
 kets_at-side_at-requires t c =
     let lows : c.as_slice.result.now ≡ low_terms (2 ^ (c.args.height - 1)) c.args.terms.now =
-        c.as_slice.ensures.value ∙ c.in-Ok.ensures ∙ ap (λ h. low_terms h c.args.terms.now) c.half_of-half.ensures in
+    c.as_slice.ensures.value ∙ c.in-Ok.ensures ∙ ap (λ h. low_terms h c.args.terms.now) c.half_of-half.ensures in
     let inside : All (λ t. t.index < 2 ^ (c.args.height - 1)) c.as_slice.result.now = subst (All (λ t. t.index < 2 ^ (c.args.height - 1))) (sym lows) (lows_inside (2 ^ (c.args.height - 1)) c.args.terms.now) in
     search rules
 
 pub kets_at-returns-in_err-left-clause-grows : goal.kets_at-returns-in_err-left-clause-grows
 kets_at-returns-in_err-left-clause-grows t c =
     let lows : c.as_slice.result.now ≡ low_terms (2 ^ (c.args.height - 1)) c.args.terms.now =
-        c.as_slice.ensures.value ∙ c.in-Ok.ensures ∙ ap (λ h. low_terms h c.args.terms.now) c.half_of-half.ensures in
+    c.as_slice.ensures.value ∙ c.in-Ok.ensures ∙ ap (λ h. low_terms h c.args.terms.now) c.half_of-half.ensures in
     let some : c.args.height ≡ suc (c.args.height - 1) = omega (arith, c.if-height-eq0.false) in
     let highs = high_terms (2 ^ (c.args.height - 1)) c.args.terms.now in
     let both = ap (λ (ts : List Term). length ts + length highs) lows ∙ parts-count (2 ^ (c.args.height - 1)) c.args.terms.now in
@@ -35,7 +35,7 @@ kets_at-returns-in_err-left-clause-grows t c =
 pub kets_at-returns-in_err-left-clause-stops : goal.kets_at-returns-in_err-left-clause-stops
 kets_at-returns-in_err-left-clause-stops t c =
     let lows : c.as_slice.result.now ≡ low_terms (2 ^ (c.args.height - 1)) c.args.terms.now =
-        c.as_slice.ensures.value ∙ c.in-Ok.ensures ∙ ap (λ h. low_terms h c.args.terms.now) c.half_of-half.ensures in
+    c.as_slice.ensures.value ∙ c.in-Ok.ensures ∙ ap (λ h. low_terms h c.args.terms.now) c.half_of-half.ensures in
     let some : c.args.height ≡ suc (c.args.height - 1) = omega (arith, c.if-height-eq0.false) in
     let highs = high_terms (2 ^ (c.args.height - 1)) c.args.terms.now in
     let both = ap (λ (ts : List Term). length ts + length highs) lows ∙ parts-count (2 ^ (c.args.height - 1)) c.args.terms.now in
@@ -48,20 +48,20 @@ pub kets_at-side_at-requires-2 : goal.kets_at-side_at-requires-2
 kets_at-side_at-requires-2 t c =
     let half = 2 ^ (c.args.height - 1) in
     let highs : c.as_slice-2.result.now ≡ high_terms (2 ^ (c.args.height - 1)) c.args.terms.now =
-        c.as_slice-2.ensures.value ∙ c.in-Ok-highs_of.ensures ∙ ap (λ h. high_terms h c.args.terms.now) c.half_of-half.ensures in
+    c.as_slice-2.ensures.value ∙ c.in-Ok-highs_of.ensures ∙ ap (λ h. high_terms h c.args.terms.now) c.half_of-half.ensures in
     let some : c.args.height ≡ suc (c.args.height - 1) = omega (arith, c.if-height-eq0.false) in
     let all : All (λ t. t.index < 2 ^ suc (c.args.height - 1)) c.args.terms.now = subst (λ h. All (λ t. t.index < 2 ^ h) c.args.terms.now) some c.requires.inside in
     let inside : All (λ t. t.index < 2 ^ (c.args.height - 1)) c.as_slice-2.result.now =
-        subst (All (λ t. t.index < 2 ^ (c.args.height - 1))) (sym highs) (highs_inside (2 ^ (c.args.height - 1)) c.args.terms.now (within_more (c.args.height - 1) c.args.terms.now all)) in
+    subst (All (λ t. t.index < 2 ^ (c.args.height - 1))) (sym highs) (highs_inside (2 ^ (c.args.height - 1)) c.args.terms.now (within_more (c.args.height - 1) c.args.terms.now all)) in
     let zeros = zeros-Extends c.args.store.now c.side_at.new.store c.side_at.ensures.grows.keeps c.args.zeros.now c.requires.zeros in
     search rules
 
 pub kets_at-returns-in_err-right-clause-grows : goal.kets_at-returns-in_err-right-clause-grows
 kets_at-returns-in_err-right-clause-grows t c =
     let lows : c.as_slice.result.now ≡ low_terms (2 ^ (c.args.height - 1)) c.args.terms.now =
-        c.as_slice.ensures.value ∙ c.in-Ok.ensures ∙ ap (λ h. low_terms h c.args.terms.now) c.half_of-half.ensures in
+    c.as_slice.ensures.value ∙ c.in-Ok.ensures ∙ ap (λ h. low_terms h c.args.terms.now) c.half_of-half.ensures in
     let highs : c.as_slice-2.result.now ≡ high_terms (2 ^ (c.args.height - 1)) c.args.terms.now =
-        c.as_slice-2.ensures.value ∙ c.in-Ok-highs_of.ensures ∙ ap (λ h. high_terms h c.args.terms.now) c.half_of-half.ensures in
+    c.as_slice-2.ensures.value ∙ c.in-Ok-highs_of.ensures ∙ ap (λ h. high_terms h c.args.terms.now) c.half_of-half.ensures in
     let some : c.args.height ≡ suc (c.args.height - 1) = omega (arith, c.if-height-eq0.false) in
     let both = ap₂ (λ (ts ss : List Term). length ts + length ss) lows highs ∙ parts-count (2 ^ (c.args.height - 1)) c.args.terms.now in
     let most = kets_both (c.args.height - 1) c.args.height (length c.as_slice.result.now) (length c.as_slice-2.result.now) (length c.args.terms.now) some both c.requires.some in
@@ -70,9 +70,9 @@ kets_at-returns-in_err-right-clause-grows t c =
 pub kets_at-returns-in_err-right-clause-stops : goal.kets_at-returns-in_err-right-clause-stops
 kets_at-returns-in_err-right-clause-stops t c =
     let lows : c.as_slice.result.now ≡ low_terms (2 ^ (c.args.height - 1)) c.args.terms.now =
-        c.as_slice.ensures.value ∙ c.in-Ok.ensures ∙ ap (λ h. low_terms h c.args.terms.now) c.half_of-half.ensures in
+    c.as_slice.ensures.value ∙ c.in-Ok.ensures ∙ ap (λ h. low_terms h c.args.terms.now) c.half_of-half.ensures in
     let highs : c.as_slice-2.result.now ≡ high_terms (2 ^ (c.args.height - 1)) c.args.terms.now =
-        c.as_slice-2.ensures.value ∙ c.in-Ok-highs_of.ensures ∙ ap (λ h. high_terms h c.args.terms.now) c.half_of-half.ensures in
+    c.as_slice-2.ensures.value ∙ c.in-Ok-highs_of.ensures ∙ ap (λ h. high_terms h c.args.terms.now) c.half_of-half.ensures in
     let some : c.args.height ≡ suc (c.args.height - 1) = omega (arith, c.if-height-eq0.false) in
     let both = ap₂ (λ (ts ss : List Term). length ts + length ss) lows highs ∙ parts-count (2 ^ (c.args.height - 1)) c.args.terms.now in
     let most = kets_both (c.args.height - 1) c.args.height (length c.as_slice.result.now) (length c.as_slice-2.result.now) (length c.args.terms.now) some both c.requires.some in
@@ -88,9 +88,9 @@ kets_at-node-requires-clause-heights t c =
 pub kets_at-returns-in_err-made-2-clause-grows : goal.kets_at-returns-in_err-made-2-clause-grows
 kets_at-returns-in_err-made-2-clause-grows t c =
     let lows : c.as_slice.result.now ≡ low_terms (2 ^ (c.args.height - 1)) c.args.terms.now =
-        c.as_slice.ensures.value ∙ c.in-Ok.ensures ∙ ap (λ h. low_terms h c.args.terms.now) c.half_of-half.ensures in
+    c.as_slice.ensures.value ∙ c.in-Ok.ensures ∙ ap (λ h. low_terms h c.args.terms.now) c.half_of-half.ensures in
     let highs : c.as_slice-2.result.now ≡ high_terms (2 ^ (c.args.height - 1)) c.args.terms.now =
-        c.as_slice-2.ensures.value ∙ c.in-Ok-highs_of.ensures ∙ ap (λ h. high_terms h c.args.terms.now) c.half_of-half.ensures in
+    c.as_slice-2.ensures.value ∙ c.in-Ok-highs_of.ensures ∙ ap (λ h. high_terms h c.args.terms.now) c.half_of-half.ensures in
     let some : c.args.height ≡ suc (c.args.height - 1) = omega (arith, c.if-height-eq0.false) in
     let both = ap₂ (λ (ts ss : List Term). length ts + length ss) lows highs ∙ parts-count (2 ^ (c.args.height - 1)) c.args.terms.now in
     let most = kets_both (c.args.height - 1) c.args.height (length c.as_slice.result.now) (length c.as_slice-2.result.now) (length c.args.terms.now) some both c.requires.some in
@@ -102,9 +102,9 @@ kets_at-returns-in_err-made-2-clause-grows t c =
 pub kets_at-returns-in_err-made-2-clause-stops : goal.kets_at-returns-in_err-made-2-clause-stops
 kets_at-returns-in_err-made-2-clause-stops t c =
     let lows : c.as_slice.result.now ≡ low_terms (2 ^ (c.args.height - 1)) c.args.terms.now =
-        c.as_slice.ensures.value ∙ c.in-Ok.ensures ∙ ap (λ h. low_terms h c.args.terms.now) c.half_of-half.ensures in
+    c.as_slice.ensures.value ∙ c.in-Ok.ensures ∙ ap (λ h. low_terms h c.args.terms.now) c.half_of-half.ensures in
     let highs : c.as_slice-2.result.now ≡ high_terms (2 ^ (c.args.height - 1)) c.args.terms.now =
-        c.as_slice-2.ensures.value ∙ c.in-Ok-highs_of.ensures ∙ ap (λ h. high_terms h c.args.terms.now) c.half_of-half.ensures in
+    c.as_slice-2.ensures.value ∙ c.in-Ok-highs_of.ensures ∙ ap (λ h. high_terms h c.args.terms.now) c.half_of-half.ensures in
     let some : c.args.height ≡ suc (c.args.height - 1) = omega (arith, c.if-height-eq0.false) in
     let both = ap₂ (λ (ts ss : List Term). length ts + length ss) lows highs ∙ parts-count (2 ^ (c.args.height - 1)) c.args.terms.now in
     let most = kets_both (c.args.height - 1) c.args.height (length c.as_slice.result.now) (length c.as_slice-2.result.now) (length c.args.terms.now) some both c.requires.some in
@@ -117,9 +117,9 @@ kets_at-returns-in_err-made-2-clause-stops t c =
 pub kets_at-returns-clause-made : goal.kets_at-returns-clause-made
 kets_at-returns-clause-made t c =
     let lows : c.as_slice.result.now ≡ low_terms (2 ^ (c.args.height - 1)) c.args.terms.now =
-        c.as_slice.ensures.value ∙ c.in-Ok.ensures ∙ ap (λ h. low_terms h c.args.terms.now) c.half_of-half.ensures in
+    c.as_slice.ensures.value ∙ c.in-Ok.ensures ∙ ap (λ h. low_terms h c.args.terms.now) c.half_of-half.ensures in
     let highs : c.as_slice-2.result.now ≡ high_terms (2 ^ (c.args.height - 1)) c.args.terms.now =
-        c.as_slice-2.ensures.value ∙ c.in-Ok-highs_of.ensures ∙ ap (λ h. high_terms h c.args.terms.now) c.half_of-half.ensures in
+    c.as_slice-2.ensures.value ∙ c.in-Ok-highs_of.ensures ∙ ap (λ h. high_terms h c.args.terms.now) c.half_of-half.ensures in
     let some : c.args.height ≡ suc (c.args.height - 1) = omega (arith, c.if-height-eq0.false) in
     let left = kets-Extends c.side_at.new.store c.side_at-2.new.store c.side_at-2.ensures.grows.keeps (c.args.height - 1) c.as_slice.result.now c.in_ok-left.left c.in_ok-left.ensures.made in
     let first = kets-Extends c.side_at-2.new.store c.node.new.self c.node.ensures.keeps (c.args.height - 1) c.as_slice.result.now c.in_ok-left.left left in
@@ -131,9 +131,9 @@ kets_at-returns-clause-made t c =
 pub kets_at-returns-clause-grows : goal.kets_at-returns-clause-grows
 kets_at-returns-clause-grows t c =
     let lows : c.as_slice.result.now ≡ low_terms (2 ^ (c.args.height - 1)) c.args.terms.now =
-        c.as_slice.ensures.value ∙ c.in-Ok.ensures ∙ ap (λ h. low_terms h c.args.terms.now) c.half_of-half.ensures in
+    c.as_slice.ensures.value ∙ c.in-Ok.ensures ∙ ap (λ h. low_terms h c.args.terms.now) c.half_of-half.ensures in
     let highs : c.as_slice-2.result.now ≡ high_terms (2 ^ (c.args.height - 1)) c.args.terms.now =
-        c.as_slice-2.ensures.value ∙ c.in-Ok-highs_of.ensures ∙ ap (λ h. high_terms h c.args.terms.now) c.half_of-half.ensures in
+    c.as_slice-2.ensures.value ∙ c.in-Ok-highs_of.ensures ∙ ap (λ h. high_terms h c.args.terms.now) c.half_of-half.ensures in
     let some : c.args.height ≡ suc (c.args.height - 1) = omega (arith, c.if-height-eq0.false) in
     let both = ap₂ (λ (ts ss : List Term). length ts + length ss) lows highs ∙ parts-count (2 ^ (c.args.height - 1)) c.args.terms.now in
     let most = kets_both (c.args.height - 1) c.args.height (length c.as_slice.result.now) (length c.as_slice-2.result.now) (length c.args.terms.now) some both c.requires.some in
