@@ -6,6 +6,8 @@ mod bracket;
 mod powers;
 mod scaling;
 mod tensors;
+#[cfg(test)]
+mod tests;
 
 pub use basis::all;
 pub use bracket::kets;
