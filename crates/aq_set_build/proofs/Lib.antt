@@ -8,3 +8,6 @@ pub mod HalfLemmas
 pub mod FamilyLemmas
 pub mod KetLemmas
 pub mod PowerLemmas
+pub mod ListLemmas
+pub mod ExprLemmas
+pub mod CoverLemmas

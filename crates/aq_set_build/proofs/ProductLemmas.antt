@@ -50,7 +50,7 @@ scaled_both a u w v z h g = record {
 }
 
 -- ---- tensor products
-abbrev Fits : Amplitude × Amplitude → Type 0
+abbrev pub Fits : Amplitude × Amplitude → Type 0
 Fits p = FitsAmplitudeProduct p.0 p.1
 
 pub tensor_none : (w : Vector) → IsTensorOf [] w []

@@ -6,3 +6,5 @@ pub mod Families
 pub mod Brackets
 pub mod Bases
 pub mod Powers
+pub mod Listing
+pub mod Laws

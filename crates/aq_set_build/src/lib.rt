@@ -3,6 +3,7 @@
 
 mod basis;
 mod bracket;
+pub mod laws;
 mod powers;
 mod scaling;
 mod tensors;
