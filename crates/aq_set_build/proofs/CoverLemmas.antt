@@ -1,25 +1,24 @@
 -- Each vector of an expression has a word that leads to it.
-use Rattle.std.proofs.Common.{◌≡◌, ℕ, zero, suc, ◌+◌, ◌-◌, ◌*◌, ◌^◌, ◌<◌, ◌≤◌, ◌⊎◌, inl, inr, Bool, true, false, cond, ltb, List, [], ◌∷◌, ◌++◌, length, take, drop, map, slice_get, Some, replicate, min, refl, sym, ap, ap₂, subst, ◌∙◌, arith}
+use Rattle.std.proofs.Common.{◌≡◌, ℕ, zero, suc, ◌+◌, ◌-◌, ◌*◌, ◌^◌, ◌<◌, ◌≤◌, ◌⊎◌, inl, inr, Bool, true, false, cond, ltb, List, [], ◌∷◌, ◌++◌, length, slice_get, Some, replicate, refl, sym, ap, ap₂, subst, ◌∙◌, arith}
 use native.Mathlib.Numerals.{unary_clauses}
-use Rattle.std.specs.List.{repeat, range_with_len}
 use Rattle.std.proofs.lemmas.Bool.{cases_lt, ltb-true, ltb-false}
 use Rattle.std.proofs.lemmas.List.{length-append}
 use Rattle.std.proofs.lemmas.List.FromFn.{length-map-range_with_len}
 use Rattle.std.proofs.lemmas.Option.{slice_get_within}
 use Rattle.std.proofs.Math.Nat.{min-eq_left}
 use Rattle.aq_store.specs.Words.{IsWord}
-use Rattle.aq_sets.specs.Vectors.{Vector, Listed, kets_vector, basis_vector, power, lists, vectors_of}
-use Rattle.aq_sets.specs.Sizes.{Size, size_of, larger, united_shape, Placing, place, first_place, number_of, shortened, lower, first_number, union_place, power_place}
+use Rattle.aq_sets.specs.Vectors.{Vector, Listed, basis_vector, lists, vectors_of}
+use Rattle.aq_sets.specs.Sizes.{Size, size_of, larger, united_shape, Placing, place, number_of, shortened, lower, first_number, union_place}
 use Rattle.aq_sets.specs.Valid.{IsValidExpr, IsValidSets}
 use Rattle.aq_sets.specs.declared.sets.Sets.{Sets}
 use Rattle.aq_sets.specs.ValidExprs.{AreValidExprs}
 use Rattle.aq_sets.specs.declared.sets.Expr.{Expr}
 use Rattle.aq_sets.specs.declared.sets.Expr.TheVariants as expr
 use Rattle.aq_sets.proofs.ExprLaws.{listed_by, size_by, lists-is, size-is, some_times}
-use Rattle.aq_sets.proofs.PlaceLaws.{place_by, place-is, length-word}
+use Rattle.aq_sets.proofs.PlaceLaws.{place_by, place-is}
 use Rattle.aq_sets.proofs.SizeLaws.{by_position, there, has_shape, has_count}
 use Rattle.aq_set_build.proofs.HalfLemmas.{number-more, number-below}
-use Rattle.aq_set_build.proofs.ListLemmas.{Covers, both_lead, covers_tensor}
+use Rattle.aq_set_build.proofs.ListLemmas.{Covers, covers_tensor}
 use Rattle.aq_set_build.proofs.ExprLemmas.{Covered, same_lead, covers_power}
 
 -- ---- words of unions

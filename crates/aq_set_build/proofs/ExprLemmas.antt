@@ -1,16 +1,15 @@
 -- Automata of expressions, kind by kind.
-use Rattle.std.proofs.Common.{◌≡◌, ℕ, zero, suc, ◌+◌, ◌-◌, ◌*◌, ◌^◌, ◌<◌, ◌≤◌, List, [], ◌∷◌, ◌++◌, length, take, drop, map, slice_get, Some, All, replicate, refl, sym, ap, ap₂, subst, ◌∙◌, arith}
+use Rattle.std.proofs.Common.{◌≡◌, ℕ, zero, suc, ◌+◌, ◌-◌, ◌*◌, ◌^◌, ◌<◌, List, ◌++◌, length, take, drop, map, slice_get, Some, replicate, sym, ap, ap₂, subst, ◌∙◌, arith}
 use Rattle.std.specs.List.{repeat, range_with_len, flat_map}
-use Rattle.std.proofs.lemmas.List.{append-nil, length-map, length-append, length-replicate, take-append-drop}
+use Rattle.std.proofs.lemmas.List.{append-nil, length-append, length-replicate, take-append-drop}
 use Rattle.std.proofs.Math.Seq.{take-append_seam, drop-append_seam}
 use Rattle.std.proofs.lemmas.List.Elements.{All-nil, All-append, Contains-append_left, Contains-append_right}
-use Rattle.std.proofs.lemmas.List.FromFn.{length-map-range_with_len}
 use Rattle.aq_ring.specs.Fractions.{Amplitude}
 use Rattle.aq_store.specs.declared.lsta.Lsta.{Lsta}
-use Rattle.aq_store.specs.Nodes.{FitsStore, vector_of}
+use Rattle.aq_store.specs.Nodes.{vector_of}
 use Rattle.aq_store.specs.Words.{IsWord}
-use Rattle.aq_sets.specs.Vectors.{Vector, Listed, tensors, pairs, all_pairs, kets_vector, basis_vector, basis, power, listed, lists, vectors_of, products_of}
-use Rattle.aq_sets.specs.Sizes.{Size, size_of, Placing, place, first_place, number_of, power_place, tensor_place}
+use Rattle.aq_sets.specs.Vectors.{Vector, Listed, tensors, pairs, all_pairs, kets_vector, basis_vector, power, lists, vectors_of, products_of}
+use Rattle.aq_sets.specs.Sizes.{Size, size_of, Placing, place, number_of, power_place, tensor_place}
 use Rattle.aq_sets.specs.declared.sets.Expr.{Expr}
 use Rattle.aq_sets.specs.declared.sets.Expr.TheVariants as expr
 use Rattle.aq_sets.specs.declared.sets.Term.{Term}
@@ -20,7 +19,7 @@ use Rattle.aq_sets.proofs.PlaceLaws.{place_by, place-is, word_front, word_back, 
 use Rattle.aq_sets.proofs.SizeLaws.{has_shape, has_count, length-repeat, length-tensor}
 use Rattle.aq_sets.proofs.ToldLaws.{repeat_more}
 use Rattle.std.proofs.lemmas.Option.{slice_get_within}
-use Rattle.aq_set_build.specs.Products.{AllFit, IsTensorOf, IsWideAmong}
+use Rattle.aq_set_build.specs.Products.{AllFit, IsWideAmong}
 use Rattle.aq_set_build.specs.Tensors.{Table, IsTensor, IsTensorCause}
 use Rattle.aq_set_build.specs.Families.{IsFamily}
 use Rattle.aq_set_build.specs.Bases.{numbered}

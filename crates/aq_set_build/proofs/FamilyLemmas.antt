@@ -1,13 +1,12 @@
 -- Nodes by what the words of their pairs give.
-use Rattle.std.proofs.Common.{◌≡◌, ℕ, zero, suc, ◌+◌, ◌<◌, ◌≤◌, List, [], ◌∷◌, ◌++◌, length, slice_get, Some, refl, sym, ap, ap₂, subst, ◌∙◌, arith}
+use Rattle.std.proofs.Common.{◌≡◌, ℕ, zero, suc, ◌<◌, List, [], ◌∷◌, ◌++◌, length, slice_get, Some, refl, sym, ap₂, subst, ◌∙◌, arith}
 use Rattle.aq_ring.specs.Fractions.{Amplitude}
 use Rattle.aq_store.specs.declared.node.Node.TheVariants.{Leaf, Inner}
 use Rattle.aq_store.specs.declared.lsta.Lsta.{Lsta}
-use Rattle.aq_store.specs.Nodes.{EachPair, HasHeight, HasShape, Extends, tree}
+use Rattle.aq_store.specs.Nodes.{EachPair, HasHeight, HasShape, Extends}
 use Rattle.aq_store.specs.Means.{under, MeansPair, MeanPairs}
 use Rattle.aq_store.specs.Words.{IsWord}
-use Rattle.aq_store.proofs.TableLemmas.{HasShape-Extends}
-use Rattle.aq_store.proofs.ShapeLemmas.{EachPair-none, EachPair-more, shape_height, same_element, tree-Extends-shape}
+use Rattle.aq_store.proofs.ShapeLemmas.{EachPair-none, EachPair-more, shape_height, same_element}
 use Rattle.aq_store.proofs.MeansLemmas.{Means-Extends, Means-same, means_node}
 use Rattle.aq_sets.specs.Vectors.{Vector}
 use Rattle.aq_set_build.specs.Tensors.{Table}

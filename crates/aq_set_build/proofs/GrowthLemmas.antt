@@ -1,8 +1,8 @@
 -- Calls that make nodes, one after the other.
-use Rattle.std.proofs.Common.{◌≡◌, ℕ, ◌+◌, ◌<◌, ◌≤◌, inl, inr, List, Result, Ok, Err, IsErr, IsErrAnd, IfErr, refl, sym, ap, subst, ◌∙◌, arith}
+use Rattle.std.proofs.Common.{◌≡◌, ℕ, ◌+◌, ◌≤◌, inl, inr, List, Result, refl, sym, subst, ◌∙◌, arith}
 use Rattle.aq_ring.specs.Fractions.{Amplitude}
 use Rattle.aq_store.specs.Count.{Count}
-use Rattle.aq_store.specs.Nodes.{Adds, IsAdded, IsRefused, Extends, total_cost, cost}
+use Rattle.aq_store.specs.Nodes.{Adds, IsRefused, Extends, total_cost, cost}
 use Rattle.aq_store.specs.Stops.{GivesUp}
 use Rattle.aq_store.specs.declared.node.Node.{Node}
 use Rattle.aq_store.specs.declared.store.Stop.{Stop}

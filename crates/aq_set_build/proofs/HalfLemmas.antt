@@ -4,12 +4,12 @@ use Rattle.std.specs.Prelude.{map, filter, All}
 use native.Mathlib.Numerals.{unary_clauses}
 use Rattle.std.specs.List.{range_with_len, find, fold}
 use Rattle.std.specs.Option.{option_map_or}
-use Rattle.std.proofs.lemmas.Bool.{cases_eq, cases_lt, ne_eqb, ltb-true, ltb-false}
-use Rattle.std.proofs.lemmas.List.{map-append, length-map}
+use Rattle.std.proofs.lemmas.Bool.{cases_eq, cases_lt, ne_eqb}
+use Rattle.std.proofs.lemmas.List.{map-append}
 use Rattle.std.proofs.lemmas.List.Elements.{All-nil, All-cons, All-head, All-tail}
 use Rattle.aq_ring.specs.Fractions.{Amplitude}
 use Rattle.aq_ring.specs.Amplitudes.{amplitude_zero, amplitude_one}
-use Rattle.aq_sets.specs.Vectors.{Vector, entries, kets_entry, kets_vector, basis_vector}
+use Rattle.aq_sets.specs.Vectors.{entries, kets_entry, kets_vector, basis_vector}
 use Rattle.aq_sets.specs.Sizes.{number_of}
 use Rattle.aq_sets.specs.declared.sets.Term.{Term}
 use Rattle.aq_store.specs.Words.{IsWord}

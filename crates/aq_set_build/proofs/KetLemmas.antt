@@ -1,9 +1,8 @@
 -- Brackets and bases, level by level.
-use Rattle.std.proofs.Common.{◌≡◌, ℕ, zero, suc, ◌+◌, ◌-◌, ◌*◌, ◌^◌, ◌<◌, ◌≤◌, inl, inr, List, [], ◌∷◌, ◌++◌, length, get_or, replicate, slice_get, Some, All, refl, sym, ap, ap₂, subst, ◌∙◌, arith}
+use Rattle.std.proofs.Common.{◌≡◌, ℕ, zero, suc, ◌+◌, ◌-◌, ◌*◌, ◌^◌, ◌<◌, ◌≤◌, inl, inr, List, [], ◌∷◌, ◌++◌, length, get_or, replicate, slice_get, Some, All, refl, sym, ap, subst, ◌∙◌, arith}
 use Rattle.std.proofs.lemmas.Option.{slice_get_read, slice_get_within}
 use Rattle.std.proofs.lemmas.List.Elements.{All-head}
 use Rattle.std.proofs.Math.Nat.{mul-le-mul_left}
-use Rattle.aq_ring.specs.Fractions.{Amplitude}
 use Rattle.aq_ring.specs.Amplitudes.{amplitude_zero, amplitude_one}
 use Rattle.aq_store.specs.declared.node.Node.TheVariants.{Leaf, Inner}
 use Rattle.aq_store.specs.Nodes.{Extends}
@@ -15,8 +14,8 @@ use Rattle.aq_sets.specs.declared.sets.Term.{Term}
 use Rattle.aq_set_build.specs.Tensors.{Table}
 use Rattle.aq_set_build.specs.Brackets.{low_terms, high_terms, IsKets, AreZeros}
 use Rattle.aq_set_build.specs.Bases.{IsBasis, IsNothing}
-use Rattle.aq_set_build.proofs.HalfLemmas.{kets-halves, kets-last, kets-nothing, nothing-halves, basis-low, basis-high, basis-first, number-more, number-below, lows_inside, highs_inside, within_more, parts-count}
-use Rattle.aq_set_build.proofs.FamilyLemmas.{gives_leaf, gives_same, gives-Extends, gives_pair, gives_one, gives_two}
+use Rattle.aq_set_build.proofs.HalfLemmas.{kets-halves, kets-last, kets-nothing, nothing-halves, basis-low, basis-high, basis-first, number-more, number-below}
+use Rattle.aq_set_build.proofs.FamilyLemmas.{gives_leaf, gives-Extends, gives_pair, gives_one, gives_two}
 
 -- ---- brackets
 pub kets_leaf : (table : Table) (id n : ℕ) (ts : List Term) (t : Term) → n ≡ 0 → 0 < length ts → t ≡ get_or ts 0 t → All (λ t. t.index < 2 ^ n) ts → slice_get table id ≡ Some (Leaf t.amp) → IsKets n ts table id

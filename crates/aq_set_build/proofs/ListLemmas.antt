@@ -1,6 +1,6 @@
 -- Automata of lists of vectors, and of their products.
-use Rattle.std.proofs.Common.{◌≡◌, ℕ, inl, inr, zero, suc, ◌+◌, ◌-◌, ◌*◌, ◌/◌, ◌%◌, ◌^◌, ◌<◌, ◌≤◌, ◌⊎◌, List, [], ◌∷◌, ◌++◌, length, take, drop, get_or, map, slice_get, Option, None, Some, All, replicate, refl, sym, ap, ap₂, subst, ◌∙◌, arith}
-use Rattle.std.specs.List.{flat_map, Contains, repeat, range_with_len}
+use Rattle.std.proofs.Common.{◌≡◌, ℕ, inl, inr, zero, suc, ◌+◌, ◌*◌, ◌/◌, ◌%◌, ◌<◌, ◌≤◌, ◌⊎◌, List, [], ◌∷◌, ◌++◌, length, take, drop, map, slice_get, None, Some, All, refl, sym, ap, ap₂, subst, ◌∙◌, arith}
+use Rattle.std.specs.List.{flat_map, Contains}
 use Rattle.std.proofs.Math.Nat.{mul-le-mul_right}
 use Rattle.std.proofs.Math.Seq.{take-append_seam, drop-append_seam}
 use Rattle.std.proofs.lemmas.Bool.{cases_lt}
@@ -8,9 +8,8 @@ use Rattle.std.proofs.lemmas.List.{length-map, length-append}
 use Rattle.std.proofs.lemmas.List.Elements.{All-nil, All-append}
 use Rattle.std.proofs.lemmas.Option.{slice_get_within, get_or_from_slice_get}
 use Rattle.aq_ring.specs.Fractions.{Amplitude}
-use Rattle.aq_store.specs.declared.node.Node.{Node}
 use Rattle.aq_store.specs.declared.lsta.Lsta.{Lsta}
-use Rattle.aq_store.specs.Nodes.{HasShape, FitsStore, Extends, tree, vector_of, pairs_at}
+use Rattle.aq_store.specs.Nodes.{HasShape, Extends, tree, vector_of, pairs_at}
 use Rattle.aq_store.specs.Words.{IsWord}
 use Rattle.aq_store.proofs.TableLemmas.{HasShape-Extends, slice_get-some}
 use Rattle.aq_store.proofs.ShapeLemmas.{tree-Extends-shape, same_length}
@@ -20,7 +19,7 @@ use Rattle.aq_sets.specs.Vectors.{Vector, tensor, tensors, pairs, all_pairs}
 use Rattle.aq_sets.specs.Sizes.{Placing}
 use Rattle.aq_sets.proofs.PlaceLaws.{length-word, word_front, word_back}
 use Rattle.aq_sets.proofs.SizeLaws.{length-tensors}
-use Rattle.aq_set_build.specs.Products.{AllFit, IsTensorOf, IsWideAmong}
+use Rattle.aq_set_build.specs.Products.{AllFit, IsWideAmong}
 use Rattle.aq_set_build.specs.Tensors.{Table, IsTensor, IsTensorCause}
 use Rattle.aq_set_build.specs.Listing.{Lists}
 use Rattle.aq_set_build.proofs.ProductLemmas.{contains_flat, Fits}

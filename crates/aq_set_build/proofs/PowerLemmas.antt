@@ -1,11 +1,11 @@
 -- Powers, one time more.
-use Rattle.std.proofs.Common.{◌≡◌, ℕ, zero, suc, ◌+◌, ◌-◌, ◌*◌, ◌^◌, ◌<◌, ◌≤◌, List, [], ◌∷◌, ◌++◌, length, take, drop, refl, sym, ap, ap₂, subst, ◌∙◌, arith}
+use Rattle.std.proofs.Common.{◌≡◌, ℕ, zero, suc, ◌+◌, ◌-◌, ◌*◌, ◌^◌, ◌<◌, ◌≤◌, List, ◌++◌, length, take, drop, refl, sym, ap, subst, ◌∙◌, arith}
 use Rattle.std.specs.List.{repeat}
 use Rattle.std.proofs.Math.Nat.{mul-le-mul_left, mul-le-mul_right}
 use Rattle.std.proofs.lemmas.List.{append-nil}
 use Rattle.aq_ring.specs.Fractions.{Amplitude}
 use Rattle.aq_store.specs.declared.lsta.Lsta.{Lsta}
-use Rattle.aq_store.specs.Nodes.{HasShape, FitsStore, Extends, vector_of}
+use Rattle.aq_store.specs.Nodes.{FitsStore, Extends, vector_of}
 use Rattle.aq_store.proofs.ShapeLemmas.{tree-Extends-shape}
 use Rattle.aq_sets.specs.Vectors.{Vector, pairs}
 use Rattle.aq_sets.proofs.SizeLaws.{length-repeat}
@@ -13,7 +13,7 @@ use Rattle.aq_sets.proofs.ToldLaws.{repeat_more}
 use Rattle.aq_set_build.specs.Budgets.{weight}
 use Rattle.aq_set_build.specs.Products.{IsTensorOf, IsWideAmong}
 use Rattle.aq_set_build.specs.Tensors.{Table, IsTensor, IsTensorCause}
-use Rattle.aq_set_build.specs.Powers.{PowerGives, IsPower, IsPowerCause}
+use Rattle.aq_set_build.specs.Powers.{IsPower, IsPowerCause}
 use Rattle.aq_set_build.proofs.WeightLemmas.{AreSome, many, weight-is, leaves-append, many_some, power_some}
 
 -- ---- weights

@@ -1,12 +1,12 @@
 -- Walks over the runs of a node, and what they take.
-use Rattle.std.proofs.Common.{◌≡◌, ℕ, zero, suc, ◌+◌, ◌-◌, ◌*◌, ◌^◌, ◌<◌, ◌≤◌, ◌⊎◌, inl, inr, List, [], ◌∷◌, ◌++◌, length, drop, get_or, slice_get, Some, refl, sym, ap, ap₂, subst, ◌∙◌, arith, lit≤}
+use Rattle.std.proofs.Common.{◌≡◌, ℕ, ◌+◌, ◌-◌, ◌*◌, ◌<◌, ◌≤◌, inl, inr, List, [], ◌++◌, length, drop, get_or, slice_get, Some, sym, ap, ap₂, subst, ◌∙◌, arith}
 use Rattle.std.proofs.Math.Nat.{mul-le-mul_right}
 use Rattle.std.proofs.Math.ListN.{drop_of_length-le}
 use Rattle.std.proofs.lemmas.List.{length-append}
 use Rattle.std.proofs.lemmas.Bool.{cases_lt}
 use Rattle.aq_store.specs.declared.node.Node.{Node}
 use Rattle.aq_store.specs.Runs.{copies, compress, run_of}
-use Rattle.aq_store.specs.Nodes.{HasShape, IsLeaf, Extends, EachPair, pairs_at, runs_at}
+use Rattle.aq_store.specs.Nodes.{HasShape, IsLeaf, Extends, pairs_at, runs_at}
 use Rattle.aq_store.proofs.TableLemmas.{HasShape-Extends}
 use Rattle.aq_store.proofs.RunLemmas.{before, run_choice, run_next, run_within, length-copies}
 use Rattle.aq_store.proofs.MeansLemmas.{pairs_at-kept, opened}

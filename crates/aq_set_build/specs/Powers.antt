@@ -1,5 +1,5 @@
 -- Automata of powers: tensor products from the left to the right.
-use Rattle.std.specs.Prelude.{◌≡◌, ℕ, zero, suc, ◌+◌, ◌*◌, ◌<◌, List, length, take, drop}
+use Rattle.std.specs.Prelude.{◌≡◌, ℕ, zero, suc, ◌*◌, ◌<◌, List, length, take, drop}
 use Rattle.std.specs.List.{repeat}
 use Rattle.aq_ring.specs.Fractions.{Amplitude}
 use Rattle.aq_store.specs.declared.lsta.Lsta.{Lsta}

@@ -1,5 +1,5 @@
 -- Products of vectors with amplitudes and with vectors, and when they fit.
-use Rattle.std.specs.Prelude.{◌≡◌, ℕ, List, All, map}
+use Rattle.std.specs.Prelude.{◌≡◌, List, All, map}
 use Rattle.std.specs.List.{Contains}
 use Rattle.aq_ring.specs.Fractions.{Amplitude}
 use Rattle.aq_ring.specs.Amplitudes.{product, FitsAmplitudeProduct}

@@ -1,7 +1,6 @@
-use Rattle.std.proofs.Common.{◌≡◌, ◌+◌, ◌-◌, ◌*◌, suc, replicate, Some, refl, sym, ap, ◌∙◌, arith}
+use Rattle.std.proofs.Common.{◌≡◌, ◌-◌, replicate, refl, arith}
 use Rattle.std.proofs.lemmas.Grind.{common_steps}
 use Rattle.aq_set_build.specs.Bases.{numbered}
-use Rattle.aq_set_build.proofs.GrowthLemmas.{grows_then, grows_within, grows_adds}
 use Rattle.aq_set_build.proofs.FamilyLemmas.{two_heights, is_family}
 use Rattle.aq_set_build.proofs.KetLemmas.{basis_node, basis-Extends, nothing-Extends}
 use Rattle.aq_set_build.proofs.basis.all.Goals as goal

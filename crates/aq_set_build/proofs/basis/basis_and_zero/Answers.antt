@@ -1,6 +1,6 @@
-use Rattle.std.proofs.Common.{◌≡◌, ◌+◌, ◌*◌, suc, replicate, Some, refl, sym, ap, ◌∙◌, arith}
+use Rattle.std.proofs.Common.{◌+◌, ◌*◌, replicate, Some, refl, ap, ◌∙◌, arith}
 use Rattle.aq_store.specs.declared.node.Node.TheVariants.{Leaf}
-use Rattle.aq_set_build.proofs.GrowthLemmas.{grows_then, grows_within, grows_adds}
+use Rattle.aq_set_build.proofs.GrowthLemmas.{grows_then, grows_adds}
 use Rattle.aq_set_build.proofs.FamilyLemmas.{two_heights}
 use Rattle.aq_set_build.proofs.KetLemmas.{basis_leaf, nothing_leaf, basis_node, nothing_node, basis-Extends, nothing-Extends}
 use Rattle.aq_set_build.proofs.basis.basis_and_zero.Goals as goal

@@ -1,4 +1,4 @@
-use Rattle.std.proofs.Common.{◌≡◌, ℕ, suc, ◌+◌, ◌-◌, ◌*◌, ◌^◌, ◌<◌, ◌≤◌, List, [], length, replicate, All, refl, sym, ap, ap₂, subst, ◌∙◌, arith, rules, Some}
+use Rattle.std.proofs.Common.{◌≡◌, suc, ◌+◌, ◌-◌, ◌*◌, ◌^◌, ◌<◌, List, length, replicate, All, sym, ap, ap₂, subst, ◌∙◌, arith, rules, Some}
 use Rattle.aq_store.specs.declared.node.Node.TheVariants.{Leaf}
 use Rattle.std.proofs.lemmas.Grind.{common_steps}
 use Rattle.aq_store.proofs.StopLemmas.{passed_on}

@@ -1,4 +1,4 @@
-use Rattle.std.proofs.Common.{◌≡◌, ℕ, ◌-◌, ◌+◌, ◌<◌, suc, length, replicate, sym, ◌∙◌, arith, [], ap}
+use Rattle.std.proofs.Common.{◌≡◌, ◌-◌, ◌<◌, length, replicate, ◌∙◌, arith, [], ap}
 use Rattle.std.proofs.lemmas.Grind.{common_steps}
 use Rattle.std.proofs.Common.{Some}
 use Rattle.aq_store.specs.declared.node.Node.TheVariants.{Leaf}

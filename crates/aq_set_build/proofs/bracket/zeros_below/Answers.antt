@@ -1,4 +1,4 @@
-use Rattle.std.proofs.Common.{◌≡◌, ◌+◌, length, [], ◌∷◌, sym, ap, subst, ◌∙◌, arith}
+use Rattle.std.proofs.Common.{◌+◌, length, [], ap, subst, arith}
 use Rattle.std.proofs.lemmas.List.{length_push}
 use Rattle.aq_set_build.specs.Brackets.{IsKets}
 use Rattle.aq_set_build.proofs.GrowthLemmas.{grows_then}

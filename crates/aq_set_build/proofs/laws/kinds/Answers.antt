@@ -1,5 +1,3 @@
-use Rattle.std.proofs.Common.{◌≡◌, ◌<◌, length, arith}
-use Rattle.std.proofs.lemmas.Option.{slice_get_within}
 use Rattle.aq_set_build.proofs.ExprLemmas.{made_kets, made_all, made_tensor, made_power, wide_tensor, wide_power}
 use Rattle.aq_set_build.proofs.CoverLemmas.{valid_exprs, covered, tensor_within, power_within}
 use Rattle.aq_set_build.proofs.laws.kinds.Goals as goal

@@ -1,4 +1,4 @@
-use Rattle.std.proofs.Common.{◌≡◌, ◌<◌, length, arith}
+use Rattle.std.proofs.Common.{arith}
 use Rattle.aq_sets.proofs.SizeLaws.{has_count}
 use Rattle.aq_set_build.proofs.CoverLemmas.{valid_exprs, covered}
 use Rattle.aq_set_build.proofs.laws.words.Goals as goal

@@ -1,4 +1,4 @@
-use Rattle.std.proofs.Common.{◌-◌, ◌*◌, ◌≤◌}
+use Rattle.std.proofs.Common.{◌-◌, ◌*◌}
 use Rattle.std.specs.List.{repeat}
 use Rattle.aq_set_build.specs.Growth.{Grows}
 use Rattle.aq_set_build.specs.Budgets.{weight}

@@ -1,12 +1,11 @@
-use Rattle.std.proofs.Common.{◌≡◌, ℕ, ◌+◌, ◌-◌, ◌*◌, ◌<◌, ◌≤◌, ◌++◌, [], length, drop, get_or, refl, sym, ap, subst, ◌∙◌, arith, rules}
-use Rattle.aq_store.specs.Nodes.{HasShape, pairs_at, runs_at, total_cost}
-use Rattle.aq_store.specs.Runs.{copies}
+use Rattle.std.proofs.Common.{◌≡◌, ℕ, ◌+◌, ◌-◌, ◌*◌, ◌<◌, ◌≤◌, length, drop, get_or, sym, ap, subst, ◌∙◌, arith, rules}
+use Rattle.aq_store.specs.Nodes.{pairs_at}
 use Rattle.aq_store.specs.Means.{Means, of_place}
 use Rattle.aq_store.specs.Memos.{memo_at}
-use Rattle.aq_store.proofs.TableLemmas.{Extends-refl, Extends-trans, HasShape-Extends}
-use Rattle.aq_store.proofs.RunLemmas.{before, before-start, before-end}
+use Rattle.aq_store.proofs.TableLemmas.{Extends-trans, HasShape-Extends}
+use Rattle.aq_store.proofs.RunLemmas.{before-start, before-end}
 use Rattle.aq_store.proofs.MeansLemmas.{place_step, place_done, means_heights, MeanPairs-none}
-use Rattle.aq_store.proofs.StopLemmas.{adds_limit, passed_on}
+use Rattle.aq_store.proofs.StopLemmas.{passed_on}
 use Rattle.aq_store.proofs.OwedLemmas.{split_shape}
 use Rattle.aq_set_build.specs.Budgets.{walk_budget}
 use Rattle.aq_set_build.specs.Products.{IsScaled}

@@ -1,4 +1,4 @@
-use Rattle.std.proofs.Common.{arith, ap, sym}
+use Rattle.std.proofs.Common.{arith, ap}
 use Rattle.aq_store.proofs.StopLemmas.{passed_on}
 use Rattle.aq_set_build.specs.Budgets.{walk_budget}
 use Rattle.aq_set_build.specs.Tensors.{IsScaleCause, IsHangCause}

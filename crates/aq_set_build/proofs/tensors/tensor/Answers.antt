@@ -1,4 +1,4 @@
-use Rattle.std.proofs.Common.{◌≡◌, ◌+◌, ◌*◌, ◌≤◌, ◌++◌, List, ℕ, drop, sym, ap, subst, arith}
+use Rattle.std.proofs.Common.{◌+◌, ◌*◌, ◌++◌, ap, arith}
 use Rattle.aq_store.proofs.StopLemmas.{passed_on}
 use Rattle.aq_set_build.specs.Budgets.{walk_budget, weight}
 use Rattle.aq_set_build.specs.Tensors.{IsTensorCause}
