@@ -20,14 +20,14 @@ use Rattle.aq_sets.proofs.ToldLaws.{repeat_more}
 
 -- ---- one step
 
-place_by : (ℕ → Size) → (ℕ → Placing) → Expr → Placing
+unfoldable pub place_by : (ℕ → Size) → (ℕ → Placing) → Expr → Placing
 place_by size f (expr.Kets qubits terms) = first_place
 place_by size f (expr.All qubits) = number_of
 place_by size f (expr.Tensor left right) = tensor_place (size left) (size right) (f left) (f right)
 place_by size f (expr.Union left right) = union_place (size left) (size right) (f left) (f right)
 place_by size f (expr.Power base times) = power_place times (size base) (f base)
 
-place-is : (exprs : List Expr) (i : ℕ) (e : Expr) → slice_get exprs i ≡ Some e → IsValidExpr exprs i e → place exprs i ≡ place_by (size_of exprs) (place exprs) e
+pub place-is : (exprs : List Expr) (i : ℕ) (e : Expr) → slice_get exprs i ≡ Some e → IsValidExpr exprs i e → place exprs i ≡ place_by (size_of exprs) (place exprs) e
 unfolding place place_by
 place-is exprs i (expr.Kets qubits terms) h v = at_step (place_step (size_of exprs)) first_place exprs i (expr.Kets qubits terms) h
 place-is exprs i (expr.All qubits) h v = at_step (place_step (size_of exprs)) first_place exprs i (expr.All qubits) h
@@ -48,28 +48,28 @@ place-is exprs i (expr.Power base times) h v =
 
 -- ---- words
 
-length-word : (shape word : List ℕ) → IsWord shape word → length word ≡ length shape
+pub length-word : (shape word : List ℕ) → IsWord shape word → length word ≡ length shape
 length-word [] [] h = refl
 length-word [] (c ∷ word) h = absurd h
 length-word (n ∷ shape) [] h = absurd h
 length-word (n ∷ shape) (c ∷ word) h = ap suc (length-word shape word h.1)
 
-word_front : (xs ys word : List ℕ) → IsWord (xs ++ ys) word → IsWord xs (take (length xs) word)
+pub word_front : (xs ys word : List ℕ) → IsWord (xs ++ ys) word → IsWord xs (take (length xs) word)
 word_front [] ys word h = tt
 word_front (x ∷ xs) ys [] h = absurd h
 word_front (x ∷ xs) ys (c ∷ word) h = (h.0, word_front xs ys word h.1)
 
-word_back : (xs ys word : List ℕ) → IsWord (xs ++ ys) word → IsWord ys (drop (length xs) word)
+pub word_back : (xs ys word : List ℕ) → IsWord (xs ++ ys) word → IsWord ys (drop (length xs) word)
 word_back [] ys word h = h
 word_back (x ∷ xs) ys [] h = absurd h
 word_back (x ∷ xs) ys (c ∷ word) h = word_back xs ys word h.1
 
 -- no qubit is without a choice
-ArePositive : List ℕ → Type 0
+unfoldable pub ArePositive : List ℕ → Type 0
 ArePositive [] = Unit {0}
 ArePositive (n ∷ shape) = (0 < n) × ArePositive shape
 
-positive-append : (xs ys : List ℕ) → ArePositive xs → ArePositive ys → ArePositive (xs ++ ys)
+pub positive-append : (xs ys : List ℕ) → ArePositive xs → ArePositive ys → ArePositive (xs ++ ys)
 unfolding ArePositive
 positive-append [] ys p q = q
 positive-append (x ∷ xs) ys p q = (p.0, positive-append xs ys p.1 q)
@@ -96,7 +96,7 @@ positive-united [] ys p q = q
 positive-united (x ∷ xs) [] p q = p
 positive-united (x ∷ xs) (y ∷ ys) p q = (omega (arith, p.0, q.0), positive-larger xs ys p.1 q.1)
 
-shortened-word : (shape word : List ℕ) → ArePositive shape → length word ≡ length shape → IsWord shape (shortened shape word)
+pub shortened-word : (shape word : List ℕ) → ArePositive shape → length word ≡ length shape → IsWord shape (shortened shape word)
 unfolding ArePositive
 shortened-word [] [] p e = tt
 shortened-word [] (c ∷ word) p e = absurd (omega arith)
@@ -105,7 +105,7 @@ shortened-word (n ∷ shape) (c ∷ word) p e = (omega (arith, p.0), shortened-w
 
 -- ---- places are within the list
 
-number-below : (k n : ℕ) (word : List ℕ) → IsWord (replicate k 2) word → fold (λ n digit. 2 * n + digit) n word < (n + 1) * 2 ^ k
+pub number-below : (k n : ℕ) (word : List ℕ) → IsWord (replicate k 2) word → fold (λ n digit. 2 * n + digit) n word < (n + 1) * 2 ^ k
 number-below zero n [] h = omega (arith, pow-zero 2)
 number-below zero n (c ∷ word) h = absurd h
 number-below (suc k) n [] h = absurd h
@@ -179,7 +179,7 @@ positive-step exprs i (expr.Tensor left right) v ih = positive-append (size_of e
 positive-step exprs i (expr.Union left right) v ih = positive-united (size_of exprs left).shape (size_of exprs right).shape (ih left v.0) (ih right v.1)
 positive-step exprs i (expr.Power base times) v ih = positive-repeat times (size_of exprs base).shape (ih base v)
 
-has_positive : (exprs : List Expr) → AreValidExprs exprs → (i : ℕ) → i < length exprs → ArePositive (size_of exprs i).shape
+pub has_positive : (exprs : List Expr) → AreValidExprs exprs → (i : ℕ) → i < length exprs → ArePositive (size_of exprs i).shape
 has_positive exprs valid = by_expr HasPositive exprs valid (λ i e v some ih. positive-step exprs i e v ih)
 
 places-step : (exprs : List Expr) → AreValidExprs exprs → (i : ℕ) (e : Expr) → slice_get exprs i ≡ Some e → IsValidExpr exprs i e

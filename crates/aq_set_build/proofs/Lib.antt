@@ -1,0 +1,13 @@
+pub mod GrowthLemmas
+pub mod WalkLemmas
+pub mod ProductLemmas
+pub mod ScaleLemmas
+pub mod HangLemmas
+pub mod WeightLemmas
+pub mod HalfLemmas
+pub mod FamilyLemmas
+pub mod KetLemmas
+pub mod PowerLemmas
+pub mod ListLemmas
+pub mod ExprLemmas
+pub mod CoverLemmas

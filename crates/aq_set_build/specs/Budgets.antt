@@ -1,0 +1,13 @@
+-- Bounds on steps.
+use Rattle.std.specs.Prelude.{ℕ, ◌+◌, ◌*◌, ◌^◌, List, [], ◌∷◌, length}
+use Rattle.aq_store.specs.Words.{words}
+
+-- what all words of a shape come to, each with the nodes of a binary tree
+abbrev pub weight : List ℕ → ℕ
+weight shape = words shape * 2 ^ (length shape + 1)
+
+-- The steps of a walk over a tree of this shape in which no node is met twice, where what is done at a leaf takes so many:
+-- for each node an entry of a memo and its pairs, and for each pair two nodes of the next level.
+unfoldable pub walk_budget : ℕ → List ℕ → ℕ
+walk_budget leaf [] = leaf
+walk_budget leaf (n ∷ shape) = n + 1 + n * (2 * walk_budget leaf shape)

@@ -1,0 +1,16 @@
+//! Level-synchronized tree automata of the expressions of set files.
+#![tactic(auto)]
+
+mod basis;
+mod bracket;
+pub mod laws;
+mod powers;
+mod scaling;
+mod tensors;
+#[cfg(test)]
+mod tests;
+
+pub use basis::all;
+pub use bracket::kets;
+pub use powers::power;
+pub use tensors::tensor;
