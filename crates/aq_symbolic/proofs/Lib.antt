@@ -1,0 +1,5 @@
+mod NonzeroLemmas
+mod UnfitLemmas
+mod WeightLemmas
+mod MoveLemmas
+mod WorldLemmas

@@ -1,0 +1,12 @@
+//! Worlds whose states are kept as automata, played through a fragment.
+//!
+//! `specs/Worlds` says which worlds of the definitions a kept one is, `specs/Moves` what is played, and `specs/Playing`
+//! what comes of it.
+#![tactic(auto)]
+
+mod kept;
+mod nonzero;
+mod several;
+
+pub use kept::World;
+pub use several::{alive, measure, play_gate, reset};
