@@ -3,3 +3,10 @@ mod UnfitLemmas
 mod WeightLemmas
 mod MoveLemmas
 mod WorldLemmas
+mod AliveLemmas
+mod SplitLemmas
+mod Elements
+mod StopLemmas
+mod CollectLemmas
+mod LeadLemmas
+mod BranchLemmas

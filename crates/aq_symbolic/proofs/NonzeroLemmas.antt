@@ -20,14 +20,7 @@ use Rattle.aq_store.proofs.MeansLemmas.{opened, tree-choice, tree-past, tree-sho
 use Rattle.aq_store.proofs.RunLemmas.{before, run_choice, run_next, before-end}
 use Rattle.aq_store.proofs.ShapeLemmas.{same_element}
 use Rattle.aq_symbolic.specs.Worlds.{HasState, IsNull}
-
-all_left : {X : Type 0} (P : X → Type 0) (xs ys : List X) → All P (xs ++ ys) → All P xs
-all_left P [] ys h = All-nil P
-all_left P (x ∷ xs) ys h = All-cons P x xs (All-head P x (xs ++ ys) h) (all_left P xs ys (All-tail P x (xs ++ ys) h))
-
-all_right : {X : Type 0} (P : X → Type 0) (xs ys : List X) → All P (xs ++ ys) → All P ys
-all_right P [] ys h = h
-all_right P (x ∷ xs) ys h = all_right P xs ys (All-tail P x (xs ++ ys) h)
+use Rattle.aq_symbolic.proofs.Elements.{all_left, all_right}
 
 -- a vector that isn't zero has an entry that isn't
 pub nonzero_at : (v : List Amplitude) → (IsZeroVector v → ⊥) → (k : ℕ) × (k < length v) × (amplitude_at v k ≡ amplitude_zero → ⊥)
