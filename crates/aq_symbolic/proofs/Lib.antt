@@ -10,3 +10,4 @@ mod StopLemmas
 mod CollectLemmas
 mod LeadLemmas
 mod BranchLemmas
+mod StepLemmas

@@ -6,11 +6,12 @@ use Rattle.aq_ring.specs.Fractions.{Amplitude}
 use Rattle.aq_ring.specs.Amplitudes.{amplitude_zero, turn, FitsQuotient, FitsSum}
 use Rattle.aq_label.specs.Parts.{turns, FitsQuotients, FitsSums}
 use Rattle.aq_prog.specs.Digits.{digit, with_digit, amplitude_at}
-use Rattle.aq_prog.specs.Gates.{term, term_at, entry_at, FitsTerm, FitsGate, FitsGateAt}
+use Rattle.aq_prog.specs.Gates.{flip_gate, term, term_at, entry_at, FitsTerm, FitsGate, FitsGateAt}
 use Rattle.aq_prog.specs.declared.gate.Entry.{Entry}
 use Rattle.aq_prog.specs.declared.gate.Entry.TheVariants as entry
 use Rattle.aq_prog.specs.declared.gate.Gate.{Gate}
 use Rattle.aq_prog.proofs.DigitLaws.{digit-below, with_digit-own}
+use Rattle.aq_prog.proofs.FitsLaws.{always_fits}
 use Rattle.aq_store.specs.Nodes.{vector_of}
 use Rattle.aq_store.specs.Parts.{part, part_vector}
 use Rattle.aq_store.specs.declared.lsta.Lsta.{Lsta}
@@ -77,3 +78,11 @@ module _ {L : Type 0} (parts : L → List Amplitude) (count : ℕ) (all_parts : 
         (λ k lt. subst (FitsTerm below) (second k) ((at k lt).right h.on))
         (λ k lt. subst (λ x. FitsSum (term above x) (term below (part parts k h.second))) (first k) (subst (λ y. FitsSum (term above (amplitude_at (part_vector parts k v) (with_digit n gate.target 0 h.index))) (term below y)) (second k) ((at k lt).sums h.on)));
   }
+
+  -- a flip is never refused
+  pub flip_narrow : (qubit : ℕ) (g : Gate) (table : List (Node L)) (lsta : Lsta) → g.controls ≡ [] → g.target ≡ qubit → g.matrix.rows ≡ (flip_gate qubit).matrix.rows → (l r : L) → IsGateCause parts count g table lsta l r → ⊥
+  flip_narrow qubit g table lsta none at rows l r h =
+      let n = length lsta.shape.items in
+      let is : g ≡ flip_gate qubit = λ i. record { controls = none i; target = at i; matrix = record { rows = rows i } } in
+      let u = unfit_set g table lsta l r h in
+      u.wide (λ k lt. (let v = part_vector parts k (vector_of table lsta u.word) in subst (λ (x : Gate). FitsGate n x v) (sym is) (always_fits.flip n qubit v)))
