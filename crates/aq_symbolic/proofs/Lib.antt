@@ -11,3 +11,4 @@ mod CollectLemmas
 mod LeadLemmas
 mod BranchLemmas
 mod StepLemmas
+mod CallLemmas

@@ -7,6 +7,7 @@
 mod kept;
 mod nonzero;
 mod several;
+mod spread;
 
 pub use kept::World;
 pub use several::{alive, measure, play_gate, reset};
