@@ -12,3 +12,5 @@ mod LeadLemmas
 mod BranchLemmas
 mod StepLemmas
 mod CallLemmas
+mod GoLemmas
+mod DecideLemmas

@@ -27,12 +27,12 @@ decided_copy bit b w k u f s d = record {
   set = record { root = d.set.root ∙ s.root; shape = d.set.shape ∙ s.shape };
 }
 
-either_open : (bit : ℕ) (x : Option (Option Bool)) (w : meant.World) → is_unknown x ≡ true → either bit x w ≡ decided bit false w ∷ decided bit true w ∷ []
+pub either_open : (bit : ℕ) (x : Option (Option Bool)) (w : meant.World) → is_unknown x ≡ true → either bit x w ≡ decided bit false w ∷ decided bit true w ∷ []
 either_open bit None w e = cc
 either_open bit (Some None) w e = refl
 either_open bit (Some (Some b)) w e = cc
 
-either_closed : (bit : ℕ) (x : Option (Option Bool)) (w : meant.World) → is_unknown x ≡ false → either bit x w ≡ w ∷ []
+pub either_closed : (bit : ℕ) (x : Option (Option Bool)) (w : meant.World) → is_unknown x ≡ false → either bit x w ≡ w ∷ []
 either_closed bit None w e = refl
 either_closed bit (Some None) w e = cc
 either_closed bit (Some (Some b)) w e = refl

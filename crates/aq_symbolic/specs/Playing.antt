@@ -1,21 +1,25 @@
 -- What is played on kept worlds.
-use Rattle.std.specs.Prelude.{◌≡◌, ℕ, ◌+◌, ◌*◌, ◌≤◌, Bool, true, false, List, [], ◌∷◌, map, All, Contains}
+use Rattle.std.specs.Prelude.{◌≡◌, ℕ, ◌+◌, ◌*◌, ◌<◌, ◌≤◌, Bool, true, false, List, [], ◌∷◌, map, filter, All, Contains}
 use Rattle.std.specs.List.{flat_map}
 use Rattle.aq_ring.specs.Fractions.{Amplitude}
 use Rattle.aq_prog.specs.Gates.{FitsGate}
 use Rattle.aq_prog.specs.declared.stmt.Stmt.{Stmt}
 use Rattle.aq_store.specs.Count.{Count}
+use Rattle.aq_store.specs.Words.{IsWord}
 use Rattle.aq_store.specs.declared.node.Node.{Node}
 use Rattle.aq_store.specs.declared.store.Stop.{Stop}
 use Rattle.aq_gate_ops.specs.Accounts.{IsStopped}
 use Rattle.aq_gate_ops.specs.Causes.{IsCause}
 use Rattle.aq_obligations.specs.Claims.{ClaimCase}
+use Rattle.aq_obligations.specs.Counting.{is_named}
 use Rattle.aq_obligations.specs.Covering.{Met}
+use Rattle.aq_obligations.specs.Enough.{guards}
 use Rattle.aq_obligations.specs.Worlds as meant
+use Rattle.aq_correct.specs.WorldLaws.{is_alive}
 use Rattle.aq_plain.specs.Replaying.{ArePlayable, IsPlayableStmt}
-use Rattle.aq_symbolic.specs.Moves.{Move}
+use Rattle.aq_symbolic.specs.Moves.{Move, of_body}
 use Rattle.aq_symbolic.specs.Weights.{AreNamed, weights}
-use Rattle.aq_symbolic.specs.Worlds.{AreSame, AreSized, ComesFrom, IsView, View, one_word, world_of}
+use Rattle.aq_symbolic.specs.Worlds.{AreSame, AreSized, ComesFrom, IsLive, IsView, Pick, View, one_word, world_of}
 use Rattle.aq_symbolic.specs.declared.kept.World.{World}
 
 -- the gate fits on each vector of the world that meets it
@@ -78,3 +82,28 @@ pub record CanPlayStmt {L : Type 0} (table : List (Node L)) (ws : List World) (s
   pub bits : ℕ
   pub sized : AreSized qubits bits table ws
   pub playable : IsPlayableStmt qubits bits s
+
+-- the bits that the guards of the statements name
+abbrev pub named_in : List Stmt → ℕ → Bool
+named_in body bit = is_named bit (guards body)
+
+-- For each world at the start four times the words times 2^(n+1), twice for each outcome and for each bit that isn't known and
+-- that a guard names; and all this for each statement.
+abbrev pub steps_for : List Stmt → List World → ℕ
+steps_for body ws = most_steps (named_in body) (of_body body) ws
+
+-- each word of a world and each part of its labels is looked at
+pub record ShowsAll (count : ℕ) (v : View) (w : World) : Type 0 where
+  pub each : (p : Pick) → IsWord w.lsta.shape.items p.word → p.part < count → Contains (v.picks w.case) p
+
+module _ {L : Type 0} (parts : L → List Amplitude) (count : ℕ) where
+  -- The list is what comes of the worlds, but for worlds whose every vector is zero. However the worlds are looked at, what is
+  -- seen is the same but for those that seem zero so; and where all words are looked at, it is the same.
+  pub record Goes (body : List Stmt) (old new : List (Node L)) (ws list : List World) : Type 0 where
+    pub same : (n m : ℕ) (v : View) → IsView count v → AreSized n m old ws → AreSame (map (world_of parts v new) list) (flat_map ((of_body body).spread n) (map (world_of parts v old) ws))
+    pub whole : (n m : ℕ) (v : View) → IsView count v → All (ShowsAll count v) ws → AreSized n m old ws
+        → map (world_of parts v new) list ≡ filter is_alive (flat_map ((of_body body).spread n) (map (world_of parts v old) ws))
+    pub sized : (n m : ℕ) → AreSized n m old ws → AreSized n m new list
+    pub from : All (ComesFrom ws) list
+    pub live : All (IsLive parts count new) list
+    pub fits : (n m : ℕ) (v : View) → IsView count v → AreSized n m old ws → AllFit n (flat_map ((of_body body).meets n) (map (world_of parts v old) ws))

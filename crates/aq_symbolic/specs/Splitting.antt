@@ -1,5 +1,5 @@
 -- Worlds in which a bit is decided.
-use Rattle.std.specs.Prelude.{◌≡◌, ℕ, ◌⊎◌, Bool, true, false, Option, Some, None, List, [], ◌∷◌, map, slice_get, slice_set}
+use Rattle.std.specs.Prelude.{◌≡◌, ℕ, ◌⊎◌, Bool, true, false, Option, Some, None, List, [], ◌∷◌, map, length, All, Contains, slice_get, slice_set}
 use Rattle.std.specs.List.{flat_map}
 use Rattle.aq_ring.specs.Fractions.{Amplitude}
 use Rattle.aq_prog.specs.declared.stmt.Guard.{Guard}
@@ -53,3 +53,17 @@ pub record IsTold (guard : Guard) (w : World) (list : List World) : Type 0 where
 
 abbrev pub IsAssumed : Guard → World → List World → Type 0
 IsAssumed guard w list = IsFixed guard w list ⊎ IsTold guard w list
+
+-- it is of the case of one of the worlds, with its automaton and as many bits
+pub record SharesSet (ws : List World) (u : World) : Type 0 where
+  pub world : World
+  pub listed : Contains ws world
+  pub case : u.case ≡ world.case
+  pub set : IsSameSet world.lsta u.lsta
+  pub start : length u.start ≡ length world.start
+  pub bits : length u.bits ≡ length world.bits
+
+-- the list is what comes of the worlds when each is split at the bit
+pub record AreSplit (bit : ℕ) (ws list : List World) : Type 0 where
+  pub worlds : (cases : ℕ → ClaimCase) (sight : Sight) → map (seen cases sight) list ≡ flat_map (meant.split bit) (map (seen cases sight) ws)
+  pub sets : All (SharesSet ws) list

@@ -4,10 +4,12 @@
 //! what comes of it.
 #![tactic(auto)]
 
+mod fragment;
 mod kept;
 mod nonzero;
 mod several;
 mod spread;
 
+pub use fragment::{go, split};
 pub use kept::World;
 pub use several::{alive, measure, play_gate, reset};
