@@ -9,11 +9,12 @@ use Rattle.aq_prog.specs.Runs.{flipped}
 use Rattle.aq_prog.specs.declared.gate.Gate.{Gate}
 use Rattle.aq_prog.proofs.DigitLaws.{get_or-tabulate, length-tabulate}
 use Rattle.aq_store.specs.Count.{Count}
-use Rattle.aq_store.specs.Nodes.{Extends, vector_of}
+use Rattle.aq_store.specs.Nodes.{Extends, FitsStore, vector_of}
 use Rattle.aq_store.specs.Parts.{part_vector}
 use Rattle.aq_store.specs.declared.lsta.Lsta.{Lsta}
 use Rattle.aq_store.specs.declared.node.Node.{Node}
 use Rattle.aq_store.specs.declared.store.Stop.{Stop}
+use Rattle.aq_store.proofs.TableLemmas.{HasShape-Extends}
 use Rattle.aq_gate_ops.specs.Accounts.{IsStopped}
 use Rattle.aq_gate_ops.specs.Causes.{IsCause}
 use Rattle.aq_obligations.specs.Covering.{Met}
@@ -24,7 +25,7 @@ use Rattle.aq_symbolic.specs.Moves.{Move, of_gate}
 use Rattle.aq_symbolic.specs.Playing.{FitsMet, IsUnfit, Leaves, Stops, most_steps}
 use Rattle.aq_symbolic.specs.Steps.{AreAlive, FitsSet, HasFields, IsMapped, IsUnfitSet, cleared}
 use Rattle.aq_symbolic.specs.Weights.{open_bits, open_from, price, weight, weights}
-use Rattle.aq_symbolic.specs.Worlds.{AreSame, AreSized, ComesFrom, IsSized, IsView, Pick, View, one_word, picks_of_word, vector_at, world_of}
+use Rattle.aq_symbolic.specs.Worlds.{AllFitStore, AreSame, AreSized, ComesFrom, IsSized, IsView, Pick, View, one_word, picks_of_word, vector_at, world_of}
 use Rattle.aq_symbolic.specs.declared.kept.World.{World}
 use Rattle.aq_symbolic.proofs.Elements.{first_in, one_is}
 use Rattle.aq_symbolic.proofs.SplitLemmas.{from_one, from_self}
@@ -211,3 +212,10 @@ module _ {L : Type 0} (parts : L → List Amplitude) (count : ℕ) (S T : ℕ �
     stopped = λ named h. (let a = price_eight named w in stopped_within c0 c1 c2 bound (most_steps named (of_halves S T) (w ∷ [])) why limit (omega (arith, le, a)) stopped);
     cause = cause_map (λ l r. ⊥) (λ l r. IsUnfit parts count (of_halves S T) s0 (w ∷ [])) (λ l r u. absurd u) why cause;
   }
+
+-- two worlds fit
+pub two_fit : {L : Type 0} (s1 s2 : List (Node L)) (z o : World) (both : List World) → both ≡ z ∷ o ∷ [] → Extends s1 s2 → FitsStore s1 z.lsta → FitsStore s2 o.lsta → AllFitStore s2 both
+two_fit s1 s2 z o both e x a b =
+    subst (λ (l : List World). AllFitStore s2 l) (sym e)
+    (All-cons (λ (w : World). FitsStore s2 w.lsta) z (o ∷ []) (HasShape-Extends s1 s2 x z.lsta.shape.items z.lsta.root a)
+    (All-cons (λ (w : World). FitsStore s2 w.lsta) o [] b (All-nil (λ (w : World). FitsStore s2 w.lsta))))
