@@ -1,18 +1,16 @@
 -- Worlds of which those are left that have a vector that isn't zero.
-use Rattle.std.proofs.Common.{◌≡◌, ℕ, ◌+◌, ◌<◌, ◌≤◌, ◌⊎◌, inl, inr, Bool, true, false, cond, List, [], ◌∷◌, ◌++◌, map, filter, All, Contains, length, take, get_or, refl, sym, ap, ap₂, subst, ◌∙◌, arith, append-nil}
+use Rattle.std.proofs.Common.{◌≡◌, ℕ, ◌+◌, ◌<◌, inl, inr, false, cond, List, [], ◌∷◌, ◌++◌, map, filter, Contains, length, take, get_or, refl, sym, ap, ap₂, subst, ◌∙◌, arith, append-nil}
 use Rattle.std.proofs.Math.Seq.{take-length}
 use Rattle.std.proofs.lemmas.List.{map-append, take_more}
 use Rattle.std.proofs.lemmas.List.Elements.{All-nil, All-append, All-cons, All-weaker, Contains-append_left, Contains-append_right, filter-append}
 use Rattle.aq_ring.specs.Fractions.{Amplitude}
-use Rattle.aq_store.specs.Nodes.{FitsStore}
 use Rattle.aq_store.specs.declared.node.Node.{Node}
 use Rattle.aq_obligations.specs.Worlds as meant
 use Rattle.aq_correct.specs.WorldLaws.{is_alive}
 use Rattle.aq_symbolic.specs.Steps.{AddsLive, AreAlive}
-use Rattle.aq_symbolic.specs.Weights.{weight, weights}
-use Rattle.aq_symbolic.specs.Worlds.{AreSame, IsLive, IsNothing, View, world_of}
+use Rattle.aq_symbolic.specs.Worlds.{AreSame, IsLive, View, world_of}
 use Rattle.aq_symbolic.specs.declared.kept.World.{World}
-use Rattle.aq_symbolic.proofs.WeightLemmas.{weights-append, weights_one}
+use Rattle.aq_symbolic.proofs.WeightLemmas.{weights-append}
 use Rattle.aq_symbolic.proofs.WorldLemmas.{nothing_dead}
 
 -- worlds that are the same up to dead ones, one list after the other

@@ -1,7 +1,6 @@
 -- The branch that a world takes, and a branch after the split at its bit.
-use Rattle.std.proofs.Common.{◌≡◌, ℕ, zero, suc, ◌+◌, ◌*◌, ◌<◌, ◌≤◌, Bool, true, false, cond, List, [], ◌∷◌, ◌++◌, map, filter, All, Contains, length, slice_get, refl, sym, ap, ap₂, subst, ◌∙◌, arith, append-nil}
+use Rattle.std.proofs.Common.{◌≡◌, ℕ, ◌+◌, ◌*◌, ◌≤◌, Bool, true, false, cond, List, [], ◌∷◌, ◌++◌, map, filter, slice_get, refl, sym, ap, subst, ◌∙◌, arith, append-nil}
 use Rattle.std.specs.List.{flat_map}
-use Rattle.std.proofs.Math.Nat.{mul-le-mul_left}
 use Rattle.std.proofs.lemmas.List.Elements.{All-head, All-tail, All-weaker}
 use Rattle.aq_ring.specs.Fractions.{Amplitude}
 use Rattle.aq_prog.specs.declared.stmt.Guard.{Guard}
@@ -9,16 +8,15 @@ use Rattle.aq_prog.specs.declared.stmt.Stmt.{Stmt}
 use Rattle.aq_store.specs.Count.{Count}
 use Rattle.aq_store.specs.declared.node.Node.{Node}
 use Rattle.aq_store.specs.declared.store.Stop.{Stop}
-use Rattle.aq_obligations.specs.Covering.{Met}
 use Rattle.aq_obligations.specs.Enough.{guards, outcomes, statements}
 use Rattle.aq_obligations.specs.Worlds.{is_known}
 use Rattle.aq_obligations.specs.Worlds as meant
 use Rattle.aq_correct.specs.WorldLaws.{is_alive}
 use Rattle.aq_symbolic.specs.Moves.{Move, of_body, of_branch}
-use Rattle.aq_symbolic.specs.Playing.{AllFit, Gives, IsUnfit, Leaves, MeetsUnfit, Stops, most_steps}
+use Rattle.aq_symbolic.specs.Playing.{AllFit, IsUnfit, Leaves, MeetsUnfit, Stops, most_steps}
 use Rattle.aq_symbolic.specs.Splitting.{IsSplit}
 use Rattle.aq_symbolic.specs.Weights.{AreNamed, weights}
-use Rattle.aq_symbolic.specs.Worlds.{AreSame, AreSized, ComesFrom, IsSized, IsView, View, one_word, world_of}
+use Rattle.aq_symbolic.specs.Worlds.{ComesFrom, IsSized, View, one_word, world_of}
 use Rattle.aq_symbolic.specs.declared.kept.World.{World}
 use Rattle.aq_symbolic.proofs.CollectLemmas.{from_then}
 use Rattle.aq_symbolic.proofs.Elements.{all_left, all_right}
@@ -90,10 +88,10 @@ module _ {L : Type 0} (parts : L → List Amplitude) (count : ℕ) where
         (p.stopped named (taken_named named b x y h));
     cause = cause_map (λ l r. IsUnfit parts count (of_body (taken b x y)) s0 (w ∷ [])) (λ l r. IsUnfit parts count (of_branch g x y) s0 (w ∷ []))
         (λ l r u. record {
-        word = u.word;
-        wide = λ n m cases s.
-            subst (MeetsUnfit n) (sym (flat_one_same ((of_branch g x y).meets n) ((of_body (taken b x y)).meets n) (world_of parts (one_word count cases u.word) s0 w)
-            (taken_meets n g b x y (world_of parts (one_word count cases u.word) s0 w) known))) (u.wide n m cases s);
+          word = u.word;
+          wide = λ n m cases s.
+              subst (MeetsUnfit n) (sym (flat_one_same ((of_branch g x y).meets n) ((of_body (taken b x y)).meets n) (world_of parts (one_word count cases u.word) s0 w)
+              (taken_meets n g b x y (world_of parts (one_word count cases u.word) s0 w) known))) (u.wide n m cases s);
         }) why p.cause;
   }
 
@@ -110,7 +108,7 @@ module _ {L : Type 0} (parts : L → List Amplitude) (count : ℕ) where
       taken_stops_as g x y b s0 c0 c1 w why known
       (subst (λ (z : List Stmt). Stops parts count (of_body z) s0 (w ∷ []) c0 c1 why) at (subst (λ (z : List World). Stops parts count (of_body l) s0 z c0 c1 why) e p))
 
--- ---- after the split
+  -- ---- after the split
 
   if_seen : {A : Type 0} (f : meant.World → List A) (v : View) (table : List (Node L)) (bit : ℕ) (w : World) (halves : List World) → IsSplit bit w halves
       → flat_map f (map (world_of parts v table) halves) ≡ flat_map (λ z. flat_map f (meant.split bit z)) (map (world_of parts v table) (w ∷ []))
@@ -147,10 +145,10 @@ module _ {L : Type 0} (parts : L → List Amplitude) (count : ℕ) where
         (p.stopped named (All-tail (λ (q : Guard). named q.bit ≡ true) g (guards x ++ guards y) h));
     cause = cause_map (λ l r. IsUnfit parts count (of_branch g x y) s0 halves) (λ l r. IsUnfit parts count (of_if g x y) s0 (w ∷ []))
         (λ l r u. record {
-        word = u.word;
-        wide = λ n m cases s.
-            let here = All-head (IsSized n m s0) w [] s in
-            subst (MeetsUnfit n) (if_seen ((of_branch g x y).meets n) (one_word count cases u.word) s0 g.bit w halves split) (u.wide n m cases (split_sized n m s0 g.bit w halves split here));
+          word = u.word;
+          wide = λ n m cases s.
+              let here = All-head (IsSized n m s0) w [] s in
+              subst (MeetsUnfit n) (if_seen ((of_branch g x y).meets n) (one_word count cases u.word) s0 g.bit w halves split) (u.wide n m cases (split_sized n m s0 g.bit w halves split here));
         }) why p.cause;
   }
 

@@ -1,7 +1,7 @@
 -- What the calls on a statement ask for.
-use Rattle.std.proofs.Common.{◌≡◌, ℕ, zero, suc, ◌+◌, ◌*◌, ◌<◌, ◌≤◌, Bool, true, false, ◌||◌, List, [], ◌∷◌, ◌++◌, map, filter, All, length, take, get_or, slice_get, Option, IfSome, refl, sym, ap, subst, ◌∙◌, arith, append-nil}
+use Rattle.std.proofs.Common.{◌≡◌, ℕ, zero, suc, ◌+◌, ◌<◌, ◌≤◌, Bool, true, false, ◌||◌, List, [], ◌∷◌, filter, length, take, get_or, slice_get, Option, IfSome, refl, sym, ap, subst, ◌∙◌, arith, append-nil}
 use Rattle.std.specs.List.{list_any}
-use Rattle.std.proofs.lemmas.List.Elements.{All-head, All-weaker}
+use Rattle.std.proofs.lemmas.List.Elements.{All-head}
 use Rattle.std.proofs.lemmas.List.Sums.{sum_by-take-le}
 use Rattle.aq_ring.specs.Fractions.{Amplitude}
 use Rattle.aq_prog.specs.Cuts.{has_cut}
@@ -20,17 +20,16 @@ use Rattle.aq_plain.proofs.PlayLaws.{gate_valid, measure_valid, reset_valid, bra
 use Rattle.aq_store.specs.Count.{Count}
 use Rattle.aq_store.specs.Nodes.{Extends, FitsStore}
 use Rattle.aq_store.specs.declared.node.Node.{Node}
-use Rattle.aq_store.specs.declared.store.Stop.{Stop}
 use Rattle.aq_store.specs.declared.store.Stop.TheVariants.{Memory}
 use Rattle.aq_obligations.specs.Worlds.{assumed_worlds}
 use Rattle.aq_correct.specs.WorldLaws.{is_alive}
 use Rattle.aq_symbolic.specs.Moves.{Move, of_assumption}
-use Rattle.aq_symbolic.specs.Playing.{CanPlay, CanPlayStmt, Collects, IsUnfit, Leaves, Stops, most_steps}
+use Rattle.aq_symbolic.specs.Playing.{CanPlay, CanPlayStmt, Collects, Leaves, Stops, most_steps}
 use Rattle.aq_symbolic.specs.Splitting.{IsAssumed, IsSplit}
 use Rattle.aq_symbolic.specs.Weights.{weight, weights}
-use Rattle.aq_symbolic.specs.Worlds.{AreSized, IsSized, world_of}
+use Rattle.aq_symbolic.specs.Worlds.{IsSized, world_of}
 use Rattle.aq_symbolic.specs.declared.kept.World.{World}
-use Rattle.aq_symbolic.proofs.CollectLemmas.{collect_next, sized_at, sized_one, weights_within}
+use Rattle.aq_symbolic.proofs.CollectLemmas.{collect_next, sized_at, sized_one}
 use Rattle.aq_symbolic.proofs.LeadLemmas.{LeadsOn}
 use Rattle.aq_symbolic.proofs.SplitLemmas.{assumed_from, assumed_lighter, assumed_seen, assumed_sized, split_sized}
 use Rattle.aq_symbolic.proofs.StopLemmas.{stopped_memory}

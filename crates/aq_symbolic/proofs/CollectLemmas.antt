@@ -1,5 +1,5 @@
 -- What is played world by world.
-use Rattle.std.proofs.Common.{◌≡◌, ℕ, ◌+◌, ◌*◌, ◌<◌, ◌≤◌, ⊎_elim, Bool, true, false, List, [], ◌∷◌, ◌++◌, map, filter, All, Contains, length, take, get_or, refl, sym, ap, ap₂, subst, ◌∙◌, arith, append-nil}
+use Rattle.std.proofs.Common.{◌≡◌, ℕ, ◌+◌, ◌*◌, ◌<◌, ◌≤◌, ⊎_elim, Bool, List, [], ◌∷◌, ◌++◌, map, All, Contains, length, take, get_or, refl, sym, ap, ap₂, subst, ◌∙◌, arith, append-nil}
 use Rattle.std.specs.List.{flat_map}
 use Rattle.std.proofs.Math.Nat.{mul-le-mul_left}
 use Rattle.std.proofs.Math.Seq.{take-length}
@@ -12,18 +12,16 @@ use Rattle.aq_store.specs.Count.{Count}
 use Rattle.aq_store.specs.Nodes.{Extends}
 use Rattle.aq_store.specs.declared.node.Node.{Node}
 use Rattle.aq_store.specs.declared.store.Stop.{Stop}
-use Rattle.aq_gate_ops.specs.Causes.{IsCause}
-use Rattle.aq_obligations.specs.Claims.{ClaimCase}
-use Rattle.aq_obligations.specs.Covering.{Met, Meets}
+use Rattle.aq_obligations.specs.Covering.{Met}
 use Rattle.aq_obligations.specs.Worlds as meant
 use Rattle.aq_symbolic.specs.Moves.{Move}
-use Rattle.aq_symbolic.specs.Playing.{AllFit, Collects, FitsMet, Gives, IsUnfit, Leaves, MeetsUnfit, Stops, most_steps}
+use Rattle.aq_symbolic.specs.Playing.{Collects, IsUnfit, Leaves, Stops, most_steps}
 use Rattle.aq_symbolic.specs.Steps.{Keeps}
-use Rattle.aq_symbolic.specs.Weights.{AreNamed, weight, weights}
-use Rattle.aq_symbolic.specs.Worlds.{AreSame, AreSized, ComesFrom, IsSized, IsView, View, one_word, world_of}
+use Rattle.aq_symbolic.specs.Weights.{weight, weights}
+use Rattle.aq_symbolic.specs.Worlds.{AreSame, AreSized, ComesFrom, IsSized, View, one_word, world_of}
 use Rattle.aq_symbolic.specs.declared.kept.World.{World}
 use Rattle.aq_symbolic.proofs.AliveLemmas.{same_append}
-use Rattle.aq_symbolic.proofs.Elements.{contains_flat, contains_map, flat_contains, one_is}
+use Rattle.aq_symbolic.proofs.Elements.{contains_map, flat_contains, one_is}
 use Rattle.aq_symbolic.proofs.StopLemmas.{cause_map, stopped_within}
 use Rattle.aq_symbolic.proofs.WeightLemmas.{spent_more, weights-append}
 use Rattle.aq_symbolic.proofs.WorldLemmas.{sized_kept, world_kept}

@@ -1,11 +1,11 @@
 -- A whole fragment.
-use Rattle.std.proofs.Common.{◌≡◌, ℕ, zero, suc, ◌+◌, ◌*◌, ◌<◌, ◌≤◌, Bool, true, false, not, ◌&&◌, ◌||◌, cond, List, [], ◌∷◌, ◌++◌, map, filter, All, Contains, length, get_or, refl, sym, ap, ap₂, subst, ◌∙◌, arith}
-use Rattle.std.specs.List.{flat_map, list_all, list_any}
+use Rattle.std.proofs.Common.{◌≡◌, ℕ, zero, suc, ◌<◌, Bool, true, false, not, ◌&&◌, ◌||◌, cond, List, [], ◌∷◌, map, filter, All, Contains, length, get_or, refl, sym, ap, subst, ◌∙◌, arith}
+use Rattle.std.specs.List.{list_all}
 use Rattle.std.specs.Prelude.{◌==◌}
 use Rattle.std.proofs.Common.{eq-eqb}
 use Rattle.std.proofs.lemmas.List.Elements.{All-contains, All-contains_itself, All-head, All-tail, All-weaker}
 use Rattle.aq_ring.specs.Fractions.{Amplitude}
-use Rattle.aq_ring.specs.Vectors.{IsZeroVector, is_zero_vector}
+use Rattle.aq_ring.specs.Vectors.{is_zero_vector}
 use Rattle.aq_ring.proofs.VectorLaws.{is_zero_vector_true}
 use Rattle.aq_prog.specs.declared.stmt.Guard.{Guard}
 use Rattle.aq_prog.specs.declared.stmt.Stmt.{Stmt}
@@ -22,9 +22,9 @@ use Rattle.aq_symbolic.specs.Moves.{of_body}
 use Rattle.aq_symbolic.specs.Playing.{CanPlay, Goes, Leaves, ShowsAll, named_in}
 use Rattle.aq_symbolic.specs.Steps.{AreAlive}
 use Rattle.aq_symbolic.specs.Weights.{AreNamed}
-use Rattle.aq_symbolic.specs.Worlds.{AllFitStore, AreSized, ComesFrom, IsLive, IsSized, Pick, View, vector_at, world_of}
+use Rattle.aq_symbolic.specs.Worlds.{AllFitStore, ComesFrom, IsLive, IsSized, View, vector_at, world_of}
 use Rattle.aq_symbolic.specs.declared.kept.World.{World}
-use Rattle.aq_symbolic.proofs.Elements.{contains_map, one_is, rest_in}
+use Rattle.aq_symbolic.proofs.Elements.{contains_map}
 use Rattle.aq_symbolic.proofs.LeadLemmas.{blind, blind_proper}
 
 -- ---- bits that guards name

@@ -1,6 +1,6 @@
 -- Statements that are played one after the other.
-use Rattle.std.proofs.Common.{◌≡◌, ℕ, zero, suc, ◌+◌, ◌*◌, ◌<◌, ◌≤◌, ⊎_elim, Bool, true, false, not, List, [], ◌∷◌, ◌++◌, map, filter, All, Contains, length, drop, get_or, refl, sym, ap, ap₂, subst, ◌∙◌, arith, add-one, drop-cons}
-use Rattle.std.specs.List.{flat_map, sum_by}
+use Rattle.std.proofs.Common.{◌≡◌, ℕ, zero, suc, ◌+◌, ◌*◌, ◌<◌, ◌≤◌, ⊎_elim, Bool, true, false, not, List, [], ◌∷◌, map, filter, All, Contains, length, drop, get_or, refl, sym, ap, subst, ◌∙◌, arith, add-one, drop-cons}
+use Rattle.std.specs.List.{flat_map}
 use Rattle.std.proofs.Math.Nat.{mul-le-mul_left}
 use Rattle.std.proofs.lemmas.List.Elements.{All-contains, All-nil, All-weaker, Contains-append_left, Contains-append_right, Contains-append_cases}
 use Rattle.std.proofs.lemmas.List.Sums.{sum_by-cons}
@@ -16,7 +16,7 @@ use Rattle.aq_store.specs.declared.node.Node.{Node}
 use Rattle.aq_store.specs.declared.store.Stop.{Stop}
 use Rattle.aq_obligations.specs.Claims.{ClaimCase}
 use Rattle.aq_obligations.specs.Counting.{guards_of}
-use Rattle.aq_obligations.specs.Covering.{Met, Meets, meets, meets_of}
+use Rattle.aq_obligations.specs.Covering.{Met, meets, meets_of}
 use Rattle.aq_obligations.specs.Enough.{guards, outcomes, outcomes_step, statements, statements_step}
 use Rattle.aq_obligations.specs.Worlds.{Spread, in_worlds, is_nought, spread}
 use Rattle.aq_obligations.specs.Worlds as meant
@@ -24,7 +24,6 @@ use Rattle.aq_correct.specs.WorldLaws.{is_alive}
 use Rattle.aq_correct.proofs.NoughtLaws.{nought_worlds}
 use Rattle.aq_symbolic.specs.Moves.{of_body, of_stmt}
 use Rattle.aq_symbolic.specs.Playing.{AllFit, FitsMet, IsUnfit, Leaves, MeetsUnfit, Stops, most_steps}
-use Rattle.aq_symbolic.specs.Steps.{Keeps}
 use Rattle.aq_symbolic.specs.Weights.{AreNamed, weights}
 use Rattle.aq_symbolic.specs.Worlds.{AreSame, AreSized, ComesFrom, IsView, Pick, View, one_word, picks_of_word, world_of}
 use Rattle.aq_symbolic.specs.declared.kept.World.{World}
@@ -112,7 +111,7 @@ all_met n x rest ws here behind e h =
     let b = contains_flat (meets_of n (x ∷ rest)) ws e h in
     ⊎_elim (λ g. here e (flat_contains (meets n x) ws b.0 e b.1 g))
     (λ g. let a = contains_flat (meets_of n rest) (spread n x b.0) e g in
-        behind e (flat_contains (meets_of n rest) (flat_map (spread n x) ws) a.0 e (flat_contains (spread n x) ws b.0 a.0 b.1 a.1) a.2))
+    behind e (flat_contains (meets_of n rest) (flat_map (spread n x) ws) a.0 e (flat_contains (spread n x) ws b.0 a.0 b.1 a.1) a.2))
     (Contains-append_cases (meets n x b.0) (flat_map (meets_of n rest) (spread n x b.0)) e b.2)
 
 -- ---- the worlds that statements leave
@@ -249,11 +248,11 @@ module _ {L : Type 0} (parts : L → List Amplitude) (count : ℕ) where
         stopped_within c0 c1 c2 (most_steps named (of_stmt x) now) (most_steps named (of_body body) worlds) why same (omega (arith, all, split, part)) (h.stopped named here);
     cause = cause_map (λ l r. IsUnfit parts count (of_stmt x) s1 now) (λ l r. IsUnfit parts count (of_body body) s0 worlds)
         (λ l r u. record {
-        word = u.word;
-        wide = λ n m cases s.
-            let v = one_word count cases u.word in
-            let w = u.wide n m cases (on.sized n m s) in
-            on.unfit n m v (one_proper count cases u.word) s (record { met = w.met; is_met = met_here n x rest (map (world_of parts v s1) now) w.met w.is_met; wide = w.wide });
+          word = u.word;
+          wide = λ n m cases s.
+              let v = one_word count cases u.word in
+              let w = u.wide n m cases (on.sized n m s) in
+              on.unfit n m v (one_proper count cases u.word) s (record { met = w.met; is_met = met_here n x rest (map (world_of parts v s1) now) w.met w.is_met; wide = w.wide });
         }) why h.cause;
   }
 

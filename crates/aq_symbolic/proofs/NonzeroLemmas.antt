@@ -1,9 +1,9 @@
 -- Places with a vector that isn't zero, and places with none.
-use Rattle.std.proofs.Common.{◌≡◌, ℕ, zero, suc, ◌+◌, ◌<◌, ◌≤◌, ◌⊎◌, inl, inr, Bool, true, false, not, IsTrue, ◌↔◌, List, [], ◌∷◌, ◌++◌, map, All, length, get_or, drop, slice_get, Option, None, Some, refl, sym, ap, subst, ◌∙◌, arith, true≢false}
+use Rattle.std.proofs.Common.{◌≡◌, ℕ, suc, ◌+◌, ◌<◌, ◌≤◌, ◌⊎◌, inl, inr, Bool, true, false, not, IsTrue, ◌↔◌, List, [], ◌∷◌, ◌++◌, length, slice_get, Option, None, Some, refl, sym, ap, subst, ◌∙◌, arith, true≢false}
 use Rattle.std.specs.Bool.{OnTrue, OnFalse}
 use Rattle.std.proofs.lemmas.Bool.{cases_lt}
 use Rattle.std.proofs.lemmas.List.{map-append}
-use Rattle.std.proofs.lemmas.List.Elements.{All-nil, All-cons, All-head, All-tail, All-append}
+use Rattle.std.proofs.lemmas.List.Elements.{All-nil, All-cons, All-head, All-append}
 use Rattle.std.proofs.lemmas.Option.{slice_get_within}
 use Rattle.aq_ring.specs.Fractions.{Amplitude}
 use Rattle.aq_ring.specs.Amplitudes.{amplitude_zero}
@@ -14,7 +14,6 @@ use Rattle.aq_prog.proofs.VectorLaws.{zero_at}
 use Rattle.aq_store.specs.Nodes.{HasShape, IsLeaf, tree, joined, labels_at, pairs_at, pairs_of, runs_at}
 use Rattle.aq_store.specs.Parts.{part, part_vector}
 use Rattle.aq_store.specs.Runs.{run_of}
-use Rattle.aq_store.specs.Words.{IsWord}
 use Rattle.aq_store.specs.declared.node.Node.{Node}
 use Rattle.aq_store.proofs.MeansLemmas.{opened, tree-choice, tree-past, tree-short}
 use Rattle.aq_store.proofs.RunLemmas.{before, run_choice, run_next, before-end}

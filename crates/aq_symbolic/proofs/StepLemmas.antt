@@ -1,6 +1,5 @@
 -- What a gate and the outcomes of a measurement or a reset make of a world.
-use Rattle.std.proofs.Common.{◌≡◌, ℕ, zero, suc, ◌+◌, ◌*◌, ◌<◌, ◌≤◌, Bool, true, false, List, [], ◌∷◌, ◌++◌, map, filter, All, Contains, length, get_or, Option, None, Some, refl, sym, ap, ap₂, subst, ◌∙◌, arith}
-use Rattle.std.specs.List.{flat_map}
+use Rattle.std.proofs.Common.{◌≡◌, ℕ, ◌+◌, ◌*◌, ◌<◌, ◌≤◌, Bool, List, [], ◌∷◌, ◌++◌, map, filter, All, Contains, length, Option, None, Some, refl, sym, ap, ap₂, subst, ◌∙◌, arith}
 use Rattle.std.proofs.lemmas.List.{length-set}
 use Rattle.std.proofs.lemmas.List.Elements.{All-nil, All-cons, All-head, All-tail, All-map, All-weaker, All-contains}
 use Rattle.aq_ring.specs.Fractions.{Amplitude}
@@ -11,7 +10,6 @@ use Rattle.aq_prog.proofs.DigitLaws.{get_or-tabulate, length-tabulate}
 use Rattle.aq_store.specs.Count.{Count}
 use Rattle.aq_store.specs.Nodes.{Extends, FitsStore, vector_of}
 use Rattle.aq_store.specs.Parts.{part_vector}
-use Rattle.aq_store.specs.declared.lsta.Lsta.{Lsta}
 use Rattle.aq_store.specs.declared.node.Node.{Node}
 use Rattle.aq_store.specs.declared.store.Stop.{Stop}
 use Rattle.aq_store.proofs.TableLemmas.{HasShape-Extends}
@@ -25,7 +23,7 @@ use Rattle.aq_symbolic.specs.Moves.{Move, of_gate}
 use Rattle.aq_symbolic.specs.Playing.{FitsMet, IsUnfit, Leaves, Stops, most_steps}
 use Rattle.aq_symbolic.specs.Steps.{AreAlive, FitsSet, HasFields, IsMapped, IsUnfitSet, cleared}
 use Rattle.aq_symbolic.specs.Weights.{open_bits, open_from, price, weight, weights}
-use Rattle.aq_symbolic.specs.Worlds.{AllFitStore, AreSame, AreSized, ComesFrom, IsSized, IsView, Pick, View, one_word, picks_of_word, vector_at, world_of}
+use Rattle.aq_symbolic.specs.Worlds.{AllFitStore, AreSized, ComesFrom, IsSized, IsView, Pick, View, one_word, picks_of_word, vector_at, world_of}
 use Rattle.aq_symbolic.specs.declared.kept.World.{World}
 use Rattle.aq_symbolic.proofs.Elements.{first_in, one_is}
 use Rattle.aq_symbolic.proofs.SplitLemmas.{from_one, from_self}
@@ -117,16 +115,16 @@ module _ {L : Type 0} (parts : L → List Amplitude) (count : ℕ) where
         stopped_within c0 c0 c1 (2 * price w.lsta.shape.items) (most_steps named (of_gate g) (w ∷ [])) why refl (omega (arith, a)) stopped;
     cause = cause_map (λ l r. IsUnfitSet parts count (length w.lsta.shape.items) g s0 w.lsta) (λ l r. IsUnfit parts count (of_gate g) s0 (w ∷ []))
         (λ l r u. record {
-        word = u.word;
-        wide = λ n m cases s.
-            let here = All-head (IsSized n m s0) w [] s in
-            let v = one_word count cases u.word in
-            let met : Met = record { gate = g; world = world_of parts v s0 w } in
-            record {
-              met = met;
-              is_met = first_in met [];
-              wide = λ fit. u.wide (λ k lt. subst (λ q. FitsGate q g (part_vector parts k (vector_of s0 w.lsta u.word))) (sym here.levels) (part_fits n g s0 w u.word k lt fit));
-            };
+          word = u.word;
+          wide = λ n m cases s.
+              let here = All-head (IsSized n m s0) w [] s in
+              let v = one_word count cases u.word in
+              let met : Met = record { gate = g; world = world_of parts v s0 w } in
+              record {
+                met = met;
+                is_met = first_in met [];
+                wide = λ fit. u.wide (λ k lt. subst (λ q. FitsGate q g (part_vector parts k (vector_of s0 w.lsta u.word))) (sym here.levels) (part_fits n g s0 w u.word k lt fit));
+              };
         }) why cause;
   }
 

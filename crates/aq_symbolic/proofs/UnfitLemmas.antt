@@ -1,14 +1,13 @@
 -- Where a gate gave up for want of width, it doesn't fit on the vector of some word.
-use Rattle.std.proofs.Common.{◌≡◌, ℕ, zero, suc, ◌+◌, ◌<◌, ◌⊎◌, inl, inr, List, [], ◌∷◌, map, length, get_or, slice_get, Some, refl, sym, ap, ap₂, subst, ◌∙◌, arith}
+use Rattle.std.proofs.Common.{◌≡◌, ℕ, zero, suc, ◌<◌, inl, inr, List, [], ◌∷◌, map, length, slice_get, Some, refl, sym, ap, subst, ◌∙◌, arith}
 use Rattle.std.proofs.lemmas.List.{length-map}
 use Rattle.std.proofs.lemmas.Option.{slice_get_within}
 use Rattle.aq_ring.specs.Fractions.{Amplitude}
-use Rattle.aq_ring.specs.Amplitudes.{amplitude_zero, turn, FitsQuotient, FitsSum}
+use Rattle.aq_ring.specs.Amplitudes.{turn, FitsQuotient, FitsSum}
 use Rattle.aq_label.specs.Parts.{turns, FitsQuotients, FitsSums}
 use Rattle.aq_prog.specs.Digits.{digit, with_digit, amplitude_at}
-use Rattle.aq_prog.specs.Gates.{flip_gate, term, term_at, entry_at, FitsTerm, FitsGate, FitsGateAt}
+use Rattle.aq_prog.specs.Gates.{flip_gate, term, entry_at, FitsTerm, FitsGate, FitsGateAt}
 use Rattle.aq_prog.specs.declared.gate.Entry.{Entry}
-use Rattle.aq_prog.specs.declared.gate.Entry.TheVariants as entry
 use Rattle.aq_prog.specs.declared.gate.Gate.{Gate}
 use Rattle.aq_prog.proofs.DigitLaws.{digit-below, with_digit-own}
 use Rattle.aq_prog.proofs.FitsLaws.{always_fits}

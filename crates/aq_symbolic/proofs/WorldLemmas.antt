@@ -1,7 +1,6 @@
 -- Which worlds of the definitions kept ones are, after a step.
-use Rattle.std.proofs.Common.{◌≡◌, ℕ, ◌<◌, Bool, true, false, not, ◌&&◌, cond, List, [], ◌∷◌, ◌++◌, map, filter, All, length, set, slice_get, Some, refl, sym, ap, ap₂, subst, ◌∙◌}
+use Rattle.std.proofs.Common.{◌≡◌, ℕ, ◌<◌, Bool, true, false, not, ◌&&◌, List, [], ◌∷◌, map, All, length, refl, sym, ap, ap₂, subst, ◌∙◌}
 use Rattle.std.specs.List.{list_all}
-use Rattle.std.proofs.lemmas.List.{map-id, length-set}
 use Rattle.std.proofs.lemmas.List.Elements.{All-head, All-tail}
 use Rattle.aq_ring.specs.Fractions.{Amplitude}
 use Rattle.aq_ring.specs.Amplitudes.{amplitude_zero}
@@ -13,8 +12,7 @@ use Rattle.aq_store.specs.declared.lsta.Lsta.{Lsta}
 use Rattle.aq_store.specs.declared.node.Node.{Node}
 use Rattle.aq_store.proofs.ShapeLemmas.{tree-Extends-shape}
 use Rattle.aq_store.proofs.TableLemmas.{HasShape-Extends}
-use Rattle.aq_obligations.specs.Worlds.{Partial, is_nought}
-use Rattle.aq_obligations.specs.Worlds as meant
+use Rattle.aq_obligations.specs.Worlds.{Partial}
 use Rattle.aq_correct.specs.WorldLaws.{is_alive}
 use Rattle.aq_symbolic.specs.Steps.{HasFields, IsMapped, IsSameSet}
 use Rattle.aq_symbolic.specs.Worlds.{IsNothing, IsSized, IsView, Pick, View, vector_at, world_of}

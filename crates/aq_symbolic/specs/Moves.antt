@@ -1,5 +1,5 @@
 -- What is played on worlds: what it makes of them, which gates they meet on the way, and what it counts.
-use Rattle.std.specs.Prelude.{ℕ, ◌+◌, Bool, true, false, Option, List, [], ◌∷◌, ◌++◌, map, slice_get}
+use Rattle.std.specs.Prelude.{ℕ, ◌+◌, true, false, Option, List, [], ◌∷◌, ◌++◌, map, slice_get}
 use Rattle.aq_prog.specs.Gates.{apply_gate}
 use Rattle.aq_prog.specs.declared.gate.Gate.{Gate}
 use Rattle.aq_prog.specs.declared.stmt.Guard.{Guard}

@@ -1,5 +1,5 @@
 -- What is played on kept worlds.
-use Rattle.std.specs.Prelude.{◌≡◌, ℕ, ◌+◌, ◌*◌, ◌<◌, ◌≤◌, Bool, true, false, List, [], ◌∷◌, map, filter, All, Contains}
+use Rattle.std.specs.Prelude.{◌≡◌, ℕ, ◌+◌, ◌*◌, ◌<◌, ◌≤◌, Bool, List, map, filter, All, Contains}
 use Rattle.std.specs.List.{flat_map}
 use Rattle.aq_ring.specs.Fractions.{Amplitude}
 use Rattle.aq_prog.specs.Gates.{FitsGate}

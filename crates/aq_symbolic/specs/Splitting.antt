@@ -1,5 +1,5 @@
 -- Worlds in which a bit is decided.
-use Rattle.std.specs.Prelude.{◌≡◌, ℕ, ◌⊎◌, Bool, true, false, Option, Some, None, List, [], ◌∷◌, map, length, All, Contains, slice_get, slice_set}
+use Rattle.std.specs.Prelude.{◌≡◌, ℕ, ◌⊎◌, Bool, true, false, Some, List, [], ◌∷◌, map, length, All, Contains, slice_get, slice_set}
 use Rattle.std.specs.List.{flat_map}
 use Rattle.aq_ring.specs.Fractions.{Amplitude}
 use Rattle.aq_prog.specs.declared.stmt.Guard.{Guard}

@@ -1,5 +1,5 @@
 -- What a step makes of one world.
-use Rattle.std.specs.Prelude.{◌≡◌, ℕ, ◌<◌, ◌≤◌, ◌⊎◌, Bool, List, [], ◌∷◌, ◌++◌, All, Contains, length, Option, Some, None, true, false, map, filter}
+use Rattle.std.specs.Prelude.{◌≡◌, ℕ, ◌<◌, ◌≤◌, ◌⊎◌, Bool, List, [], ◌∷◌, ◌++◌, All, Contains, Option, Some, None, true, false, map}
 use Rattle.aq_ring.specs.Fractions.{Amplitude}
 use Rattle.aq_prog.specs.Gates.{FitsGate, project}
 use Rattle.aq_prog.specs.Runs.{flipped}

@@ -1,5 +1,5 @@
 -- How many steps worlds may take.
-use Rattle.std.specs.Prelude.{◌≡◌, ℕ, suc, ◌+◌, ◌*◌, ◌^◌, Bool, true, false, ◌&&◌, List, [], ◌∷◌, All, length, Option, Some, None, cond}
+use Rattle.std.specs.Prelude.{◌≡◌, ℕ, suc, ◌+◌, ◌*◌, ◌^◌, Bool, true, List, [], ◌∷◌, All, length, Option, Some, None, cond}
 use Rattle.std.specs.List.{sum_by}
 use Rattle.aq_prog.specs.declared.stmt.Guard.{Guard}
 use Rattle.aq_store.specs.Words.{words}

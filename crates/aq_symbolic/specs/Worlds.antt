@@ -13,7 +13,7 @@ use Rattle.aq_store.specs.declared.lsta.Lsta.{Lsta}
 use Rattle.aq_store.specs.declared.node.Node.{Node}
 use Rattle.aq_prog.specs.Digits.{tabulate}
 use Rattle.aq_obligations.specs.Claims.{ClaimCase}
-use Rattle.aq_obligations.specs.Worlds.{Partial} 
+use Rattle.aq_obligations.specs.Worlds.{Partial}
 use Rattle.aq_obligations.specs.Worlds as meant
 use Rattle.aq_correct.specs.WorldLaws.{is_alive}
 use Rattle.aq_symbolic.specs.declared.kept.World.{World}

@@ -7,7 +7,8 @@ ghost use Rattle.aq_store.specs.Nodes.{FitsStore, total_cost};
 ghost use Rattle.aq_gate_ops.specs.Accounts.{IsStopped};
 ghost use Rattle.aq_gate_ops.specs.Causes.{IsCause};
 ghost use Rattle.aq_obligations.specs.Worlds.{is_known, stored};
-ghost use Rattle.aq_symbolic.specs.Steps.{FitsSet, cleared, HasFields, IsMapped, IsSameSet, IsUnfitSet, Keeps, is_unknown};
+ghost use Rattle.aq_symbolic.specs.Steps.{FitsSet, IsUnfitSet, Keeps, cleared, is_unknown};
+ghost use Rattle.aq_symbolic.specs.Steps.{HasFields, IsMapped, IsSameSet};
 ghost use Rattle.aq_symbolic.specs.Weights.{price};
 
 use aq_gate_ops::apply;

@@ -30,13 +30,7 @@ fn has_state_at<L: Label>(store: &Store<L>, shape: &[u32], depth: usize, id: Id)
 /// The same of two nodes. The second is looked at only where it is another one. All zero nodes of a depth are one
 /// node, so few of them are met before one that isn't zero.
 #[cycle(nonzero)]
-fn has_either<L: Label>(
-    store: &Store<L>,
-    shape: &[u32],
-    depth: usize,
-    left: Id,
-    right: Id,
-) -> bool
+fn has_either<L: Label>(store: &Store<L>, shape: &[u32], depth: usize, left: Id, right: Id) -> bool
     requires left { HasShape store.now (drop depth shape.now) left }
     requires right { HasShape store.now (drop depth shape.now) right }
     requires deep { depth ≤ length shape.now }

@@ -1,8 +1,8 @@
 //! Several worlds: those that a step on one leaves.
-ghost use Rattle.std.specs.Prelude.{◌≡◌, ◌<◌, ◌≤◌, ◌+◌, ◌*◌, ◌++◌, [], ◌∷◌, ℕ, length, All, IfOk, IfErr, IfSome, OnOk};
+ghost use Rattle.std.specs.Prelude.{◌≡◌, ◌<◌, ◌≤◌, [], ◌∷◌, length, IfOk, IfErr, IfSome, OnOk};
 ghost use Rattle.aq_prog.specs.Gates.{IsValidGate};
 ghost use Rattle.aq_store.specs.Nodes.{FitsStore, total_cost};
-ghost use Rattle.aq_symbolic.specs.Moves.{of_assumption, of_gate, of_measurement, of_reset};
+ghost use Rattle.aq_symbolic.specs.Moves.{of_gate, of_measurement, of_reset};
 ghost use Rattle.aq_symbolic.specs.Playing.{Leaves, Stops};
 ghost use Rattle.aq_symbolic.specs.Splitting.{IsAssumed, IsSplit};
 ghost use Rattle.aq_symbolic.specs.Steps.{AddsLive, AreAlive, Keeps};

@@ -1,6 +1,5 @@
 //! Statements, played on worlds.
-ghost use Rattle.std.specs.Prelude.{◌≡◌, ◌≤◌, ℕ, IfOk, IfErr, [], ◌∷◌, false};
-ghost use Rattle.std.specs.List.{list_any};
+ghost use Rattle.std.specs.Prelude.{◌≡◌, ◌≤◌, IfOk, IfErr, [], ◌∷◌, false};
 ghost use Rattle.aq_prog.specs.Cuts.{has_cut, AreUncut};
 ghost use Rattle.aq_store.specs.Nodes.{total_cost};
 ghost use Rattle.aq_symbolic.specs.Moves.{of_body, of_branch, of_stmt};

@@ -1,4 +1,3 @@
-use Rattle.std.proofs.Common.{◌+◌, arith}
 use Rattle.aq_store.proofs.StopLemmas.{passed_on}
 use Rattle.aq_symbolic.specs.Playing.{named_in, steps_for}
 use Rattle.aq_symbolic.proofs.GoLemmas.{all_named, ends_fit, goes_from}

@@ -1,12 +1,12 @@
 use Rattle.std.proofs.Common.{rules, ◌≡◌, ◌∙◌, [], ◌∷◌, length, length-append}
 use Rattle.std.specs.Vec.{vec_len}
 use Rattle.std.proofs.lemmas.Iterator.Adapters.{YieldsList-from_vec}
-use Rattle.std.proofs.lemmas.Iterator.Consumers.{YieldsList-turn, YieldsList-end}
+use Rattle.std.proofs.lemmas.Iterator.Consumers.{YieldsList-turn}
 use Rattle.aq_store.proofs.StopLemmas.{passed_on}
 use Rattle.aq_symbolic.specs.Moves.{of_body}
 use Rattle.aq_symbolic.proofs.CallLemmas.{memory_at, one_plays}
-use Rattle.aq_symbolic.proofs.CollectLemmas.{collect_end, collect_none, collect_step, stop_at}
-use Rattle.aq_symbolic.proofs.StopLemmas.{keeps_none, keeps_then}
+use Rattle.aq_symbolic.proofs.CollectLemmas.{collect_step, stop_at}
+use Rattle.aq_symbolic.proofs.StopLemmas.{keeps_then}
 use Rattle.aq_symbolic.proofs.fragment.play_through.Goals as goal
 
 pub play_alone-requires-clause-playable : goal.play_alone-requires-clause-playable

@@ -1,4 +1,4 @@
-use Rattle.std.proofs.Common.{◌≡◌, ◌+◌, ◌<◌, ℕ, List, [], ◌∷◌, length, drop, get_or, sym, subst, arith, rules}
+use Rattle.std.proofs.Common.{◌≡◌, ◌+◌, ◌<◌, ℕ, List, [], length, drop, get_or, sym, subst, arith, rules}
 use Rattle.std.proofs.Math.ListN.{drop_of_length-le}
 use Rattle.aq_store.specs.Nodes.{HasShape, pairs_at, runs_at}
 use Rattle.aq_store.proofs.MeansLemmas.{opened}

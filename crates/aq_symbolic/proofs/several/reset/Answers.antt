@@ -1,9 +1,9 @@
-use Rattle.std.proofs.Common.{◌+◌, ◌*◌, ◌≤◌, ◌≡◌, true, false, refl, arith}
-use Rattle.aq_obligations.specs.Worlds.{measured_world, reset_world}
+use Rattle.std.proofs.Common.{◌+◌, ◌*◌, ◌≤◌, true, false, refl, arith}
+use Rattle.aq_obligations.specs.Worlds.{reset_world}
 use Rattle.aq_store.proofs.StopLemmas.{passed_on}
 use Rattle.aq_store.proofs.TableLemmas.{HasShape-Extends}
 use Rattle.aq_symbolic.specs.Weights.{price}
-use Rattle.aq_symbolic.proofs.StepLemmas.{halves_leave, halves_stop, measured_half, reset_half, two_fit}
+use Rattle.aq_symbolic.proofs.StepLemmas.{halves_leave, halves_stop, reset_half, two_fit}
 use Rattle.aq_symbolic.proofs.StopLemmas.{stopped_memory}
 use Rattle.aq_symbolic.proofs.several.reset.Goals as goal
 

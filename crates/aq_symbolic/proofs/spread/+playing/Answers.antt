@@ -2,15 +2,15 @@ use Rattle.std.proofs.Common.{rules, ◌≡◌, ◌<◌, ◌+◌, ◌*◌, ◌�
 use Rattle.std.specs.Vec.{vec_len}
 use Rattle.std.proofs.Math.ListN.{drop_of_length-le}
 use Rattle.std.proofs.lemmas.Iterator.Adapters.{YieldsList-from_vec}
-use Rattle.std.proofs.lemmas.Iterator.Consumers.{YieldsList-turn, YieldsList-end}
+use Rattle.std.proofs.lemmas.Iterator.Consumers.{YieldsList-turn}
 use Rattle.aq_prog.specs.declared.stmt.Stmt.{Stmt}
 use Rattle.aq_plain.proofs.PlayLaws.{ok_gives, err_gives, weight, weight_of, branch_weight, next_weight}
 use Rattle.aq_store.proofs.StopLemmas.{passed_on}
-use Rattle.aq_symbolic.specs.Moves.{of_branch, of_stmt, of_body, of_gate, of_measurement, of_reset, of_assumption}
-use Rattle.aq_symbolic.specs.Playing.{CanPlay, Leaves, Stops}
+use Rattle.aq_symbolic.specs.Moves.{of_branch, of_stmt, of_gate, of_measurement, of_reset, of_assumption}
+use Rattle.aq_symbolic.specs.Playing.{Leaves, Stops}
 use Rattle.aq_symbolic.proofs.BranchLemmas.{if_leaves, if_stops, leaves_as, stops_as, taken_leaves, taken_stops}
-use Rattle.aq_symbolic.proofs.CallLemmas.{assume_bits, assume_start, assumed_leaves, fits_call, gate_call, if_bits, if_start, list_plays, measure_bit, measure_qubit, memory_at, memory_first, next_plays, next_uncut, no_plays, no_uncut, one_plays, one_stmt_plays, reset_qubit, yes_plays, yes_uncut}
-use Rattle.aq_symbolic.proofs.CollectLemmas.{collect_end, collect_none, collect_step, stop_at}
+use Rattle.aq_symbolic.proofs.CallLemmas.{assume_bits, assume_start, assumed_leaves, fits_call, gate_call, if_bits, if_start, measure_bit, measure_qubit, memory_at, next_plays, next_uncut, no_plays, no_uncut, one_plays, one_stmt_plays, reset_qubit, yes_plays, yes_uncut}
+use Rattle.aq_symbolic.proofs.CollectLemmas.{collect_step, stop_at}
 use Rattle.aq_symbolic.proofs.LeadLemmas.{leads_next, leads_out, leads_start, stop_next}
 use Rattle.aq_symbolic.proofs.MoveLemmas.{of_if, assume_move, gate_move, if_move, measure_move, reset_move}
 use Rattle.aq_symbolic.proofs.StopLemmas.{keeps_none, keeps_then}
