@@ -14,3 +14,4 @@ mod StepLemmas
 mod CallLemmas
 mod GoLemmas
 mod DecideLemmas
+mod ExampleLemmas

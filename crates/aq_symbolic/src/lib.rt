@@ -9,6 +9,8 @@ mod kept;
 mod nonzero;
 mod several;
 mod spread;
+#[cfg(test)]
+mod tests;
 
 pub use fragment::{go, split};
 pub use kept::World;
