@@ -1,0 +1,17 @@
+mod NonzeroLemmas
+mod UnfitLemmas
+mod WeightLemmas
+mod MoveLemmas
+mod WorldLemmas
+mod AliveLemmas
+mod SplitLemmas
+mod Elements
+mod StopLemmas
+mod CollectLemmas
+mod LeadLemmas
+mod BranchLemmas
+mod StepLemmas
+mod CallLemmas
+mod GoLemmas
+mod DecideLemmas
+mod ExampleLemmas

@@ -1,0 +1,30 @@
+use Rattle.std.proofs.Common.{◌+◌, ◌*◌, ◌≤◌, true, false, arith}
+use Rattle.aq_obligations.specs.Worlds.{measured_world}
+use Rattle.aq_store.proofs.StopLemmas.{passed_on}
+use Rattle.aq_store.proofs.TableLemmas.{HasShape-Extends}
+use Rattle.aq_symbolic.specs.Weights.{price}
+use Rattle.aq_symbolic.proofs.StepLemmas.{halves_leave, halves_stop, measured_half, two_fit}
+use Rattle.aq_symbolic.proofs.several.measure.Goals as goal
+
+pub take_outcome-requires-2-clause-fits : goal.take_outcome-requires-2-clause-fits
+take_outcome-requires-2-clause-fits g c = HasShape-Extends c.args.store.now c.take_outcome.new.store c.take_outcome.ensures.keeps.table c.args.world.lsta.shape.items c.args.world.lsta.root c.requires.fits
+
+pub returns-in_err-other-clause-err : goal.returns-in_err-other-clause-err
+returns-in_err-other-clause-err g c =
+    let first = c.take_outcome.ensures.steps in
+    let le : c.take_outcome.new.steps.taken + 2 * price c.args.world.lsta.shape.items ≤ c.args.steps.now.taken + 8 * price c.args.world.lsta.shape.items = omega (arith, first) in
+    passed_on _ c.from_residual-in_err-other.result c.in_err-other.field-0.0 c.from_residual-in_err-other.ensures
+    (halves_stop g.L.Label.parts g.L.Label.part_count (λ n x. measured_world n c.args.qubit c.args.bit false x) (λ n x. measured_world n c.args.qubit c.args.bit true x) c.args.store.now c.args.steps.now c.take_outcome.new.steps c.take_outcome-2.new.steps (2 * price c.args.world.lsta.shape.items) c.args.world c.in_err-other.field-0.0 c.take_outcome.ensures.keeps.limit le c.in_err-other.ensures.refused c.in_err-other.ensures.narrow)
+
+pub alive-requires : goal.alive-requires
+alive-requires g c = two_fit c.take_outcome.new.store c.take_outcome-2.new.store c.in_ok-zero.zero c.in_ok-other.other c.in-Ok.both.items c.in-Ok.ensures c.take_outcome-2.ensures.keeps.table c.in_ok-zero.ensures.set.fits c.in_ok-other.ensures.set.fits
+
+pub returns-clause-ok : goal.returns-clause-ok
+returns-clause-ok g c =
+    let first = c.take_outcome.ensures.steps in
+    let second = c.take_outcome-2.ensures.steps in
+    let cheap : c.take_outcome-2.new.steps.taken ≤ c.args.steps.now.taken + 8 * price c.args.world.lsta.shape.items = omega (arith, first, second) in
+    halves_leave g.L.Label.parts g.L.Label.part_count (λ n x. measured_world n c.args.qubit c.args.bit false x) (λ n x. measured_world n c.args.qubit c.args.bit true x) c.args.store.now c.take_outcome.new.store c.take_outcome-2.new.store c.args.steps.now c.take_outcome-2.new.steps c.args.world c.in_ok-zero.zero c.in_ok-other.other c.in-Ok.both.items c.in-Ok-alive.list.items c.take_outcome.ensures.keeps.table c.take_outcome-2.ensures.keeps.table
+    (measured_half g.L.Label.parts g.L.Label.part_count c.args.qubit c.args.bit false c.args.store.now c.take_outcome.new.store c.args.world c.in_ok-zero.zero c.in_ok-zero.ensures.fields c.in_ok-zero.ensures.set)
+    (measured_half g.L.Label.parts g.L.Label.part_count c.args.qubit c.args.bit true c.take_outcome.new.store c.take_outcome-2.new.store c.args.world c.in_ok-other.other c.in_ok-other.ensures.fields c.in_ok-other.ensures.set)
+    c.in-Ok.ensures c.in-Ok-alive.ensures cheap

@@ -1,0 +1,6 @@
+pub mod Moves
+pub mod Weights
+pub mod Worlds
+pub mod Steps
+pub mod Splitting
+pub mod Playing

@@ -1,0 +1,17 @@
+//! Worlds whose states are kept as automata, played through a fragment.
+//!
+//! `specs/Worlds` says which worlds of the definitions a kept one is, `specs/Moves` what is played, and `specs/Playing`
+//! what comes of it.
+#![tactic(auto)]
+
+mod fragment;
+mod kept;
+mod nonzero;
+mod several;
+mod spread;
+#[cfg(test)]
+mod tests;
+
+pub use fragment::{go, split};
+pub use kept::World;
+pub use several::{alive, measure, play_gate, reset};

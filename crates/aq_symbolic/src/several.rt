@@ -1,0 +1,182 @@
+//! Several worlds: those that a step on one leaves.
+ghost use Rattle.std.specs.Prelude.{◌≡◌, ◌<◌, ◌≤◌, [], ◌∷◌, length, IfOk, IfErr, IfSome, OnOk};
+ghost use Rattle.aq_prog.specs.Gates.{IsValidGate};
+ghost use Rattle.aq_store.specs.Nodes.{FitsStore, total_cost};
+ghost use Rattle.aq_symbolic.specs.Moves.{of_gate, of_measurement, of_reset};
+ghost use Rattle.aq_symbolic.specs.Playing.{Leaves, Stops};
+ghost use Rattle.aq_symbolic.specs.Splitting.{IsAssumed, IsSplit};
+ghost use Rattle.aq_symbolic.specs.Steps.{AddsLive, AreAlive, Keeps};
+ghost use Rattle.aq_symbolic.specs.Worlds.{AllFitStore};
+
+use crate::kept::World;
+use crate::nonzero::has_state;
+use aq_label::Label;
+use aq_prog::{Gate, Guard};
+use aq_store::{Steps, Stop, Store};
+use std::alloc::{AllocError, Global};
+
+pub(crate) fn one(alloc: Global, world: World) -> Result<Vec<World>, AllocError>
+    ensures { IfOk result (λ list. list.items ≡ world ∷ []) }
+{
+    let mut list = Vec::new(alloc);
+    list.push(world)?;
+    Ok(list)
+}
+
+fn two(alloc: Global, first: World, second: World) -> Result<Vec<World>, AllocError>
+    ensures { IfOk result (λ list. list.items ≡ first ∷ second ∷ []) }
+{
+    let mut list = Vec::new(alloc);
+    list.push(first)?;
+    list.push(second)?;
+    Ok(list)
+}
+
+/// Adds the world, if one of its vectors isn't zero.
+fn keep<L: Label>(store: &Store<L>, list: &mut Vec<World>, world: World) -> Result<(), AllocError>
+    requires { FitsStore store.now world.lsta }
+    ensures { OnOk result (AddsLive L.parts L.part_count store.now world list.old.items list.new.items) }
+{
+    if !has_state(store, &world.lsta) {
+        return Ok(());
+    }
+    list.push(world)?;
+    Ok(())
+}
+
+/// Those of the worlds that have a vector that isn't zero. Fails only for want of memory.
+pub fn alive<L: Label>(
+    alloc: Global,
+    store: &Store<L>,
+    worlds: Vec<World>,
+) -> Result<Vec<World>, AllocError>
+    requires { AllFitStore store.now worlds.items }
+    ensures { IfOk result (λ list. AreAlive L.parts L.part_count store.now worlds.items list.items) }
+{
+    let mut list = Vec::new(alloc);
+    for world in worlds {
+        keep(store, &mut list, world)?;
+    }
+    Ok(list)
+}
+
+/// The worlds with each value of the bit that isn't ruled out, 0 before 1. Fails only for want of memory.
+pub(crate) fn split_world(alloc: Global, world: World, bit: u32) -> Result<Vec<World>, AllocError>
+    requires start { bit < length world.start }
+    requires bits { bit < length world.bits }
+    ensures { IfOk result (λ list. IsSplit bit world list.items) }
+{
+    if world.is_open(bit) {
+        let copy = world.copy(alloc)?;
+        let zero = copy.decided(bit, false);
+        let other = world.decided(bit, true);
+        let halves = two(alloc, zero, other)?;
+        return Ok(halves);
+    }
+    let same = one(alloc, world)?;
+    Ok(same)
+}
+
+/// The world after a gate. `Wide`: it doesn't fit on the vector of some word. `Spent`: four times the words times
+/// `2^(n+1)` are more steps than were left.
+pub fn play_gate<L: Label>(
+    alloc: Global,
+    store: &mut Store<L>,
+    world: World,
+    gate: &Gate,
+    steps: &mut Steps,
+) -> Result<Vec<World>, Stop<L>>
+    requires fits { FitsStore store.old world.lsta }
+    requires valid { IsValidGate (length world.lsta.shape.items) gate.now }
+    requires paid { total_cost store.old ≤ steps.old.taken }
+    ensures ok { let leaves = Leaves L.parts L.part_count (of_gate gate.now) store.old store.new steps.old steps.new in
+        IfOk result (λ list. leaves (world ∷ []) list.items) }
+    ensures keeps { Keeps store.old store.new steps.old steps.new }
+    ensures err { IfErr result
+        (Stops L.parts L.part_count (of_gate gate.now) store.old (world ∷ []) steps.old steps.new) }
+{
+    let after = world.gate(alloc, store, gate, steps)?;
+    let Ok(list) = one(alloc, after) else {
+        return Err(Stop::Memory);
+    };
+    Ok(list)
+}
+
+/// The worlds of a measurement of the qubit, outcome 0 before 1, but for those whose every vector is zero. `Spent`:
+/// eight times the words times `2^(n+1)` are more steps than were left. It is never `Wide`.
+pub fn measure<L: Label>(
+    alloc: Global,
+    store: &mut Store<L>,
+    world: World,
+    qubit: u32,
+    bit: Option<u32>,
+    steps: &mut Steps,
+) -> Result<Vec<World>, Stop<L>>
+    requires fits { FitsStore store.old world.lsta }
+    requires qubit { qubit < length world.lsta.shape.items }
+    requires bit { IfSome bit (λ b. b < length world.bits) }
+    requires paid { total_cost store.old ≤ steps.old.taken }
+    ensures ok { let move = of_measurement qubit bit in
+        let leaves = Leaves L.parts L.part_count move store.old store.new steps.old steps.new in
+        IfOk result (λ list. leaves (world ∷ []) list.items) }
+    ensures keeps { Keeps store.old store.new steps.old steps.new }
+    ensures err { let move = of_measurement qubit bit in
+        IfErr result (Stops L.parts L.part_count move store.old (world ∷ []) steps.old steps.new) }
+{
+    let zero = world.take_outcome(alloc, store, qubit, bit, false, steps)?;
+    let other = world.take_outcome(alloc, store, qubit, bit, true, steps)?;
+    let Ok(both) = two(alloc, zero, other) else {
+        return Err(Stop::Memory);
+    };
+    let Ok(list) = alive(alloc, store, both) else {
+        return Err(Stop::Memory);
+    };
+    Ok(list)
+}
+
+/// The worlds of a reset of the qubit, outcome 0 before 1, but for those whose every vector is zero. `Spent`: eight
+/// times the words times `2^(n+1)` are more steps than were left. It is never `Wide`.
+pub fn reset<L: Label>(
+    alloc: Global,
+    store: &mut Store<L>,
+    world: World,
+    qubit: u32,
+    steps: &mut Steps,
+) -> Result<Vec<World>, Stop<L>>
+    requires fits { FitsStore store.old world.lsta }
+    requires qubit { qubit < length world.lsta.shape.items }
+    requires paid { total_cost store.old ≤ steps.old.taken }
+    ensures ok { let leaves = Leaves L.parts L.part_count (of_reset qubit) store.old store.new steps.old steps.new in
+        IfOk result (λ list. leaves (world ∷ []) list.items) }
+    ensures keeps { Keeps store.old store.new steps.old steps.new }
+    ensures err { IfErr result
+        (Stops L.parts L.part_count (of_reset qubit) store.old (world ∷ []) steps.old steps.new) }
+{
+    let zero = world.reset(alloc, store, qubit, false, steps)?;
+    let other = world.reset(alloc, store, qubit, true, steps)?;
+    let Ok(both) = two(alloc, zero, other) else {
+        return Err(Stop::Memory);
+    };
+    let Ok(list) = alive(alloc, store, both) else {
+        return Err(Stop::Memory);
+    };
+    Ok(list)
+}
+
+/// The worlds in which the guard holds. Fails only for want of memory.
+pub(crate) fn assume(alloc: Global, world: World, guard: &Guard) -> Result<Vec<World>, AllocError>
+    requires start { guard.now.bit < length world.start }
+    requires bits { guard.now.bit < length world.bits }
+    ensures { IfOk result (λ list. IsAssumed guard.now world list.items) }
+{
+    if world.is_open(guard.bit) {
+        let decided = world.decided(guard.bit, guard.value);
+        let left = one(alloc, decided)?;
+        return Ok(left);
+    }
+    if world.holds(guard) {
+        let same = one(alloc, world)?;
+        return Ok(same);
+    }
+    Ok(Vec::new(alloc))
+}

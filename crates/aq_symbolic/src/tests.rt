@@ -1,0 +1,104 @@
+//! Worlds of a small fragment, by hand.
+ghost use Rattle.std.specs.Prelude.{◌≤◌, [], ◌∷◌, IfOk};
+ghost use Rattle.aq_prog.specs.Cuts.{AreUncut};
+ghost use Rattle.aq_plain.specs.Replaying.{ArePlayable};
+ghost use Rattle.aq_store.specs.Nodes.{HasShape, total_cost};
+ghost use Rattle.aq_symbolic.specs.Worlds.{AreSized};
+
+use crate::{World, go};
+use aq_prog::{Guard, Stmt};
+use aq_ring::Amp;
+use aq_store::{Id, Lsta, Steps, Stop, Store};
+use sqlite_items::Items;
+use std::alloc::Global;
+use std::test::Fail;
+
+/// Does nothing in either branch on bit 0, and measures qubit 0.
+fn branch_and_measurement(alloc: Global) -> Result<Items<Stmt>, Fail>
+    ensures playable { IfOk result (ArePlayable 1 1) }
+    ensures uncut { IfOk result AreUncut }
+{
+    let mut body = Items::new(alloc);
+    body.push(Stmt::If {
+        guard: Guard {
+            bit: 0,
+            value: true,
+        },
+        yes: Items::new(alloc),
+        no: Items::new(alloc),
+    })?;
+    body.push(Stmt::Measure {
+        qubit: 0,
+        bit: None,
+    })?;
+    Ok(body)
+}
+
+/// A leaf.
+fn leaf(store: &mut Store<Amp>, label: Amp, steps: &mut Steps) -> Result<Id, Stop<Amp>>
+    requires paid { total_cost store.old ≤ steps.old.taken }
+    ensures made { IfOk result (HasShape store.new []) }
+    ensures paid { total_cost store.new ≤ steps.new.taken }
+{
+    store.leaf(label, steps)
+}
+
+/// A node with one choice, whose sides are one leaf.
+fn both(store: &mut Store<Amp>, side: Id, steps: &mut Steps) -> Result<Id, Stop<Amp>>
+    requires side { HasShape store.old [] side }
+    requires paid { total_cost store.old ≤ steps.old.taken }
+    ensures made { IfOk result (HasShape store.new (1 ∷ [])) }
+    ensures paid { total_cost store.new ≤ steps.new.taken }
+{
+    store.node(&[(side, side)], steps)
+}
+
+/// The state |0> + |1>, in a world with one bit whose value isn't known.
+fn open_world(alloc: Global, store: &mut Store<Amp>, steps: &mut Steps) -> Result<Vec<World>, Fail>
+    requires paid { total_cost store.old ≤ steps.old.taken }
+    ensures sized { IfOk result (λ list. AreSized 1 1 store.new list.items) }
+    ensures paid { total_cost store.new ≤ steps.new.taken }
+{
+    let side = leaf(store, Amp::one(), steps)?;
+    let root = both(store, side, steps)?;
+    let mut shape = Vec::new(alloc);
+    shape.push(1)?;
+    let mut list = Vec::new(alloc);
+    list.push(World {
+        case: 0,
+        start: Items::from_slice(alloc, &[None])?,
+        bits: Items::from_slice(alloc, &[None])?,
+        outcomes: Items::new(alloc),
+        lsta: Lsta { root, shape },
+    })?;
+    Ok(list)
+}
+
+/// Bit 0 at the start and the only outcome, if both are there.
+fn told(worlds: &[World], at: usize) -> Option<(bool, bool)> {
+    let world = worlds.get(at)?;
+    let bit = (*world.start.get(0)?)?;
+    let outcome = world.outcomes.get(0)?;
+    if world.outcomes.len() > 1 {
+        return None;
+    }
+    Some((bit, *outcome))
+}
+
+#[test]
+fn branch_on_an_open_bit(rt: HostRuntime) -> Result<(), Fail> {
+    let mut store = Store::new(rt.alloc());
+    let mut steps = Steps::new(1000);
+    let worlds = open_world(rt.alloc(), &mut store, &mut steps)?;
+    let body = branch_and_measurement(rt.alloc())?;
+    let list = match go(rt.alloc(), &mut store, worlds, body.as_slice(), &mut steps) {
+        Ok(list) => list,
+        Err(stop) => return Err(Fail::from(stop)),
+    };
+    assert_eq!(rt; list.len(), 4);
+    assert_eq!(rt; told(list.as_slice(), 0), Some((false, false)));
+    assert_eq!(rt; told(list.as_slice(), 1), Some((false, true)));
+    assert_eq!(rt; told(list.as_slice(), 2), Some((true, false)));
+    assert_eq!(rt; told(list.as_slice(), 3), Some((true, true)));
+    Ok(())
+}
