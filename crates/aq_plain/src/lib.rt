@@ -4,6 +4,7 @@
 
 mod apply;
 mod listing;
+mod numerator;
 mod parts;
 mod places;
 mod player;
@@ -12,6 +13,7 @@ mod replay_stop;
 mod replaying;
 mod row;
 mod rows;
+mod small;
 mod stop;
 mod tensors;
 #[cfg(test)]

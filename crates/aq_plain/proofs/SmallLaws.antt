@@ -1,0 +1,231 @@
+-- Small amplitudes: what rows make of them fits.
+use Rattle.std.proofs.Common.{◌≡◌, ◌≢◌, ℕ, zero, suc, ◌+◌, ◌-◌, ◌*◌, ◌^◌, ◌<◌, ◌≤◌, max, List, length, refl, sym, ap, ◌∙◌, subst, arith, ℤ, pos, negsuc, ◌+ℤ◌, ◌-ℤ◌, neg_ℤ, unsigned_abs}
+use Rattle.std.proofs.lemmas.Int.{ints}
+use Rattle.std.proofs.Math.Pow.{pow_mono, add-lt-pow}
+use Rattle.std.proofs.lemmas.Nat.{pow_pos}
+use Rattle.std.proofs.Math.Nat.{two-pow-succ}
+use Rattle.std.specs.Int.RustNames.{int_div}
+use Rattle.aq_ring.specs.Quads.{Quad, quad_zero, quad_sum, quad_neg, turned, turned_by, times_root, times_roots, over_root}
+use Rattle.aq_ring.specs.Fractions.{Amplitude, IsInRange}
+use Rattle.aq_ring.specs.Amplitudes.{num_at, lowest_form, sum, turn, quotient, amplitude_zero, FitsSum, FitsQuotient}
+use Rattle.aq_ring.specs.Small.{IsSmall, IsSmallQuad}
+use Rattle.aq_ring.proofs.QuadLaws.{turned-four}
+use Rattle.aq_ring.proofs.ReduceLaws.{times_roots-sum, times_roots-zero, in_range_earlier}
+use Rattle.aq_ring.proofs.AmplitudeLaws.{one_lowest_form, lowest_form-power, lowest_form-num_at, num_at-lowest_form, sum-power, num_at-sum, num_at-later, num_at-turn, num_at-quotient, turn-power, quotient-power}
+use Rattle.aq_prog.specs.Gates.{divided, term, FitsDivided, FitsTerm, IsEntry}
+use Rattle.aq_prog.specs.declared.gate.Entry.{Entry}
+use Rattle.aq_prog.specs.declared.gate.Entry.TheVariants as entry
+use Rattle.aq_plain.specs.Small.{IsBelow, IsFraction, IsSmallAmplitude}
+use Rattle.aq_plain.specs.declared.small.Fraction.{Fraction}
+use Rattle.aq_ring.proofs.MoreLaws.{turn-zero, quotient-zero}
+use Rattle.aq_plain.specs.Wide.{FitsRow}
+
+abs_sum : (s t : ℤ) → unsigned_abs (s +ℤ t) ≤ unsigned_abs s + unsigned_abs t
+abs_sum (pos m) (pos n) = omega (arith, ints)
+abs_sum (pos m) (negsuc n) = omega (arith, ints)
+abs_sum (negsuc m) (pos n) = omega (arith, ints)
+abs_sum (negsuc m) (negsuc n) = omega (arith, ints)
+
+abs_neg : (z : ℤ) → unsigned_abs (neg_ℤ z) ≡ unsigned_abs z
+abs_neg (pos n) = omega (arith, ints)
+abs_neg (negsuc n) = omega (arith, ints)
+
+sum_below : (k : ℕ) (s t : ℤ) → unsigned_abs s < 2 ^ k → unsigned_abs t < 2 ^ k → unsigned_abs (s +ℤ t) < 2 ^ suc k
+sum_below k s t h l = let a = abs_sum s t in let b = add-lt-pow k h l in omega arith
+
+neg_below : (k : ℕ) (z : ℤ) → unsigned_abs z < 2 ^ k → unsigned_abs (neg_ℤ z) < 2 ^ k
+neg_below k z h = subst (λ n. n < 2 ^ k) (sym (abs_neg z)) h
+
+difference_below : (k : ℕ) (s t : ℤ) → unsigned_abs s < 2 ^ k → unsigned_abs t < 2 ^ k → unsigned_abs (s -ℤ t) < 2 ^ suc k
+difference_below k s t h l = sum_below k s (neg_ℤ t) h (neg_below k t l)
+
+-- ---- numerators below 2^k
+
+pub below_later : (k l : ℕ) (x : Quad) → k ≤ l → IsBelow k x → IsBelow l x
+below_later k l x h b =
+    let m = pow_mono h in
+    let p = b.a in let q = b.b in let r = b.c in let s = b.d in
+    record { a = omega arith; b = omega arith; c = omega arith; d = omega arith }
+
+pub below_root : (k : ℕ) (x : Quad) → IsBelow k x → IsBelow (suc k) (times_root x)
+unfolding times_root
+below_root k x h = record {
+  a = difference_below k x.b x.d h.b h.d;
+  b = sum_below k x.a x.c h.a h.c;
+  c = sum_below k x.b x.d h.b h.d;
+  d = difference_below k x.c x.a h.c h.a;
+}
+
+pub below_roots : (n k : ℕ) (x : Quad) → IsBelow k x → IsBelow (n + k) (times_roots n x)
+unfolding times_roots
+below_roots zero k x h = subst (λ l. IsBelow l x) (omega arith) h
+below_roots (suc n) k x h = subst (λ l. IsBelow l (times_root (times_roots n x))) (omega arith) (below_root (n + k) (times_roots n x) (below_roots n k x h))
+
+pub below_turned : (k : ℕ) (x : Quad) → IsBelow k x → IsBelow k (turned x)
+unfolding turned
+below_turned k x h = record { a = neg_below k x.d h.d; b = h.a; c = h.b; d = h.c }
+
+pub below_turned_by : (j k : ℕ) (x : Quad) → IsBelow k x → IsBelow k (turned_by j x)
+unfolding turned_by
+below_turned_by zero k x h = h
+below_turned_by (suc j) k x h = below_turned k (turned_by j x) (below_turned_by j k x h)
+
+pub below_sum : (k : ℕ) (x y : Quad) → IsBelow k x → IsBelow k y → IsBelow (suc k) (quad_sum x y)
+unfolding quad_sum
+below_sum k x y h l = record { a = sum_below k x.a y.a h.a l.a; b = sum_below k x.b y.b h.b l.b; c = sum_below k x.c y.c h.c l.c; d = sum_below k x.d y.d h.d l.d }
+
+below_zero : (k : ℕ) → IsBelow k quad_zero
+below_zero k = let p = pow_pos k in record { a = omega arith; b = omega arith; c = omega arith; d = omega arith }
+
+pub below_range : (k : ℕ) (x : Quad) → k ≤ 127 → IsBelow k x → IsInRange x
+below_range k x h b = let c = below_later k 127 x h b in record { a = c.a; b = c.b; c = c.c; d = c.d }
+
+pub small_below : (x : Quad) → IsSmallQuad x → IsBelow 62 x
+small_below x h = record { a = h.a.size; b = h.b.size; c = h.c.size; d = h.d.size }
+
+-- ---- terms of small amplitudes, over sqrt(2)^61
+
+-- p over sqrt(2)^61 has coefficients below 2^123
+record IsLow (p : Amplitude) : Type 0 where
+  pub power : p.power ≤ 61
+  pub below : IsBelow 123 (num_at 61 p)
+
+low_zero : IsLow amplitude_zero
+low_zero = record { power = omega arith; below = subst (IsBelow 123) (sym (times_roots-zero 61)) (below_zero 123) }
+
+small_at : (p : Amplitude) (n : ℕ) → IsSmallAmplitude p → n ≤ 61 → IsBelow 123 (num_at n p)
+small_at p n h l = below_later (n - p.power + 62) 123 (num_at n p) (let q = h.power in omega arith) (below_roots (n - p.power) 62 p.num (small_below p.num h.coefficients))
+
+low_turn : (j : ℕ) (p : Amplitude) → IsSmallAmplitude p → IsLow (turn j p)
+low_turn j p h =
+    let q = h.power in let t = turn-power j p in
+    record {
+      power = omega arith;
+      below = subst (IsBelow 123) (sym (num_at-turn 61 j p (omega arith))) (below_turned_by j 123 (num_at 61 p) (small_at p 61 h (omega arith)));
+    }
+
+low_quotient : (j : ℕ) (p : Amplitude) → IsSmallAmplitude p → IsLow (quotient (turn j p))
+low_quotient j p h =
+    let q = h.power in let t = turn-power j p in let d = quotient-power (turn j p) in
+    record {
+      power = omega arith;
+      below = subst (IsBelow 123) (sym (num_at-quotient 60 (turn j p) (omega arith) ∙ num_at-turn 60 j p (omega arith))) (below_turned_by j 123 (num_at 60 p) (small_at p 60 h (omega arith)));
+    }
+
+low_term : (e : Entry) (p : Amplitude) → IsEntry e → IsSmallAmplitude p → IsLow (term e p)
+low_term entry.Zero p valid h = low_zero
+low_term (entry.Unit j zero) p valid h = low_turn j p h
+low_term (entry.Unit j (suc zero)) p valid h = low_quotient j p h
+low_term (entry.Unit j (suc (suc e))) p valid h = let few = valid.1 in absurd (omega arith)
+
+small_term_fits : (e : Entry) (p : Amplitude) → IsEntry e → IsSmallAmplitude p → FitsTerm e p
+small_term_fits entry.Zero p valid h = tt
+small_term_fits (entry.Unit j zero) p valid h = tt
+small_term_fits (entry.Unit j (suc zero)) p valid h =
+    let q = h.power in let t = turn-power j p in let d = quotient-power (turn j p) in
+    (tt, omega arith)
+small_term_fits (entry.Unit j (suc (suc e))) p valid h = let few = valid.1 in absurd (omega arith)
+
+low_sum_fits : (p q : Amplitude) → IsLow p → IsLow q → FitsSum p q
+unfolding times_roots
+low_sum_fits p q h l = record { unless_zero = λ _ _. record {
+  left = earlier p h (omega arith);
+  right = earlier q l (omega arith);
+  sums = in_range_earlier 0 (61 - m) (quad_sum (num_at m p) (num_at m q)) (omega arith) (subst IsInRange (sym both) (below_range 124 _ (omega arith) (below_sum 123 _ _ h.below l.below)));
+} }
+  where
+    m : ℕ
+    m = max p.power q.power
+
+    in_61 : max p.power q.power ≤ 61
+    in_61 = let a = h.power in let b = l.power in omega arith
+
+    earlier : (r : Amplitude) → IsLow r → r.power ≤ m → IsInRange (num_at m r)
+    earlier r k le = in_range_earlier 0 (61 - m) (num_at m r) (omega arith) (subst IsInRange (sym (num_at-later m 61 r le in_61)) (below_range 123 _ (omega arith) k.below))
+
+    both : times_roots (61 - m) (quad_sum (num_at m p) (num_at m q)) ≡ quad_sum (num_at 61 p) (num_at 61 q)
+    both = times_roots-sum (61 - m) _ _ ∙ (λ i. quad_sum (num_at-later m 61 p (omega arith) in_61 i) (num_at-later m 61 q (omega arith) in_61 i))
+
+-- each row fits on two small amplitudes
+pub small_row_fits : (e f : Entry) (p q : Amplitude) → IsEntry e → IsEntry f → IsSmallAmplitude p → IsSmallAmplitude q → FitsRow e f p q
+small_row_fits e f p q v w h l = record {
+  left = small_term_fits e p v h;
+  right = small_term_fits f q w l;
+  sums = low_sum_fits (term e p) (term f q) (low_term e p v h) (low_term f q w l);
+}
+
+-- ---- what is computed of numerators
+
+-- four turns give the opposite
+pub turned_by-half : (i j : ℕ) (x y : Quad) → j ≡ i + 4 → y ≡ quad_neg (turned_by i x) → y ≡ turned_by j x
+unfolding turned_by
+turned_by-half i j x y e h = h ∙ sym (turned-four (turned_by i x)) ∙ ap (λ k. turned_by k x) (let f : suc (suc (suc (suc i))) ≡ j = omega arith in f)
+
+half_below : (k : ℕ) (z : ℤ) → unsigned_abs z < 2 ^ suc k → unsigned_abs (int_div z (pos 2)) < 2 ^ k
+half_below k (pos n) h = let e = two-pow-succ k in omega (arith, ints)
+half_below k (negsuc n) h = let e = two-pow-succ k in omega (arith, ints)
+
+-- the quotient by sqrt(2) makes no coefficient larger than the largest was
+pub below_over_root : (k : ℕ) (x : Quad) → IsBelow k x → IsBelow k (over_root x)
+unfolding over_root
+below_over_root k x h = record {
+  a = half_below k (x.b -ℤ x.d) (difference_below k x.b x.d h.b h.d);
+  b = half_below k (x.a +ℤ x.c) (sum_below k x.a x.c h.a h.c);
+  c = half_below k (x.b +ℤ x.d) (sum_below k x.b x.d h.b h.d);
+  d = half_below k (x.c -ℤ x.a) (difference_below k x.c x.a h.c h.a);
+}
+
+-- the sum of two fractions, over the greater of their powers
+pub sum_of_fractions : (k l : ℕ) (x y : Quad) → sum (lowest_form k x) (lowest_form l y) ≡ lowest_form (max k l) (quad_sum (times_roots (max k l - k) x) (times_roots (max k l - l) y))
+sum_of_fractions k l x y =
+    let p = lowest_form-power k x in let q = lowest_form-power l y in
+    let n = max k l in
+    sym (lowest_form-num_at n (sum (lowest_form k x) (lowest_form l y)) (let s = sum-power (lowest_form k x) (lowest_form l y) in omega arith))
+    ∙ ap (lowest_form n) (num_at-sum n (lowest_form k x) (lowest_form l y) (omega arith) (omega arith)
+    ∙ (λ i. quad_sum (num_at-lowest_form n k x (omega arith) i) (num_at-lowest_form n l y (omega arith) i)))
+
+times_roots-turned_back : (n j : ℕ) (x : Quad) → n ≡ 0 → turned_by j (times_roots n x) ≡ times_roots n (turned_by j x)
+unfolding times_roots
+times_roots-turned_back zero j x e = refl
+times_roots-turned_back (suc n) j x e = absurd (omega arith)
+
+-- a term of an amplitude is this fraction
+pub term_is : (j e : ℕ) (p : Amplitude) → e < 2 → term (entry.Unit j e) p ≡ lowest_form (p.power + e) (turned_by j p.num)
+unfolding turn
+term_is j zero p h = ap (λ k. lowest_form k (turned_by j p.num)) (omega arith)
+term_is j (suc zero) p h =
+    let n = suc p.power in
+    let t = turn-power j p in let d = quotient-power (turn j p) in let l = lowest_form-power n (turned_by j p.num) in
+    let next : n ≡ p.power + 1 = omega arith in
+    one_lowest_form n (quotient (turn j p)) (lowest_form n (turned_by j p.num)) (omega arith) l
+    (num_at-quotient p.power (turn j p) t ∙ num_at-turn p.power j p (omega arith) ∙ ap (λ k. turned_by j (times_roots k p.num)) (let e : p.power - p.power ≡ n - n = omega arith in e)
+    ∙ times_roots-turned_back (n - n) j p.num (omega arith) ∙ sym (num_at-lowest_form n n (turned_by j p.num) (omega arith)))
+    ∙ ap (λ k. lowest_form k (turned_by j p.num)) next
+term_is j (suc (suc e)) p h = absurd (omega arith)
+
+-- a small numerator times sqrt(2)^n, where two of such powers are at most 61
+pub roots_low : (n : ℕ) (x y : Quad) → n ≤ 61 → IsBelow 62 x → y ≡ times_roots n x → IsBelow 125 y
+roots_low n x y h b e = subst (IsBelow 125) (sym e) (below_later (n + 62) 125 (times_roots n x) (omega arith) (below_roots n 62 x b))
+
+divided_zero : (e : ℕ) → divided e amplitude_zero ≡ amplitude_zero
+divided_zero zero = refl
+divided_zero (suc e) = ap quotient (divided_zero e) ∙ quotient-zero
+
+pub term_of_zero : (e : Entry) (p : Amplitude) → p ≡ amplitude_zero → term e p ≡ amplitude_zero
+term_of_zero entry.Zero p h = refl
+term_of_zero (entry.Unit j e) p h = ap (divided e) (ap (turn j) h ∙ turn-zero j) ∙ divided_zero e
+
+pub fraction_is : (j e : ℕ) (x : Entry) (p : Amplitude) (f : Fraction) → x ≡ entry.Unit j e → IsEntry x → IsSmallAmplitude p → f.num ≡ turned_by j p.num → f.power ≡ p.power + e → IsFraction (term x p) f
+fraction_is j e x p f is valid h a b =
+    let bounds : IsEntry (entry.Unit j e) = subst IsEntry is valid in
+    let few = bounds.1 in let q = h.power in
+    record {
+      same = ap (λ (y : Entry). term y p) is ∙ term_is j e p few ∙ (λ i. lowest_form (sym b i) (sym a i));
+      coefficients = subst (IsBelow 62) (sym a) (below_turned_by j 62 p.num (small_below p.num h.coefficients));
+      power = omega arith;
+    }
+
+-- the same, as it is computed
+pub made_over : (k l m : ℕ) (x y u v z : Quad) → m ≡ max k l → u ≡ times_roots (m - k) x → v ≡ times_roots (m - l) y → z ≡ quad_sum u v → lowest_form m z ≡ sum (lowest_form k x) (lowest_form l y)
+made_over k l m x y u v z e a b s =
+    ap (lowest_form m) (s ∙ (λ i. quad_sum (a i) (b i))) ∙ ap (λ n. lowest_form n (quad_sum (times_roots (n - k) x) (times_roots (n - l) y))) e ∙ sym (sum_of_fractions k l x y)
