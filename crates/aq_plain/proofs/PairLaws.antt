@@ -262,9 +262,6 @@ pub zero_before : (e f : Entry) (p q r : Amplitude) → e ≡ entry.Zero → r �
 zero_before e f p q r z same = same ∙ sym (sum-zero (term f q)) ∙ sym (ap (λ (g : Entry). sum (term g p) (term f q)) z)
 
 -- ---- small amplitudes
-pub where_true : (b : Bool) (P : Type 0) → b ≡ true → OnTrue b P → P
-where_true b P e h = subst (λ t. OnTrue t P) e h
-
 pub on_true : (b : Bool) (P Q : Type 0) → (P → Q) → OnTrue b P → OnTrue b Q
 on_true true P Q f h = f h
 on_true false P Q f h = h

@@ -229,3 +229,9 @@ fraction_is j e x p f is valid h a b =
 pub made_over : (k l m : ℕ) (x y u v z : Quad) → m ≡ max k l → u ≡ times_roots (m - k) x → v ≡ times_roots (m - l) y → z ≡ quad_sum u v → lowest_form m z ≡ sum (lowest_form k x) (lowest_form l y)
 made_over k l m x y u v z e a b s =
     ap (lowest_form m) (s ∙ (λ i. quad_sum (a i) (b i))) ∙ ap (λ n. lowest_form n (quad_sum (times_roots (n - k) x) (times_roots (n - l) y))) e ∙ sym (sum_of_fractions k l x y)
+
+pub zero_is_small : (p : Amplitude) → p ≡ amplitude_zero → IsSmallAmplitude p
+zero_is_small p e = subst IsSmallAmplitude (sym e) (record { coefficients = record { a = nothing; b = nothing; c = nothing; d = nothing }; power = omega arith })
+  where
+    nothing : IsSmall (pos 0)
+    nothing = record { size = omega arith }

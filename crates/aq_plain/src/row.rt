@@ -84,6 +84,7 @@ pub(crate) fn always_fits(first: Entry, second: Entry) -> bool
 }
 
 /// The sum of the two terms, where it fits. `small`: both amplitudes are.
+#[inline(always)]
 #[tactic(auto, using(crate::proofs::PairLaws::zero_after, crate::proofs::PairLaws::zero_before))]
 pub(crate) fn fitting_sum(
     first: Entry,
@@ -112,6 +113,16 @@ pub(crate) fn fitting_sum(
     if small {
         return small_sum(first, second, left, right);
     }
+    any_sum(first, second, left, right)
+}
+
+/// The sum of the two terms, where it fits.
+fn any_sum(first: Entry, second: Entry, left: Amp, right: Amp) -> Amp
+    requires first { IsEntry first }
+    requires second { IsEntry second }
+    requires fits { FitsRow first second left right }
+    ensures { result ≡ sum (term first left) (term second right) }
+{
     match row_sum(first, second, left, right) {
         Ok(amp) => amp,
         Err(_) => unreachable!(),

@@ -22,11 +22,22 @@ fn is_small_number(number: i128) -> bool
 
 /// Whether the amplitude's coefficients and its power are small.
 #[inline]
-fn is_small(amp: Amp) -> bool
+fn has_small_parts(amp: Amp) -> bool
     ensures { OnTrue result (IsSmallAmplitude amp) }
 {
     let [a, b, c, d] = amp.coefs();
     amp.power() <= 60 && is_small_number(a) && is_small_number(b) && is_small_number(c) && is_small_number(d)
+}
+
+/// The same, where most amplitudes are zero.
+#[inline]
+fn is_small(amp: Amp) -> bool
+    ensures { OnTrue result (IsSmallAmplitude amp) }
+{
+    if amp.is_zero() {
+        return true;
+    }
+    has_small_parts(amp)
 }
 
 /// Whether all amplitudes are small.
