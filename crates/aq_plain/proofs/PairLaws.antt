@@ -277,8 +277,8 @@ fits_on_small n gate v valid size all = record { at = at }
     at : (x : ℕ) → x < length v → FitsGateAt n gate v x
     at x h =
         let row = small_row_fits (row_entry n gate x 0) (row_entry n gate x 1) (paired n gate v x 0) (paired n gate v x 1)
-                (valid.entries (digit n gate.target x) 0) (valid.entries (digit n gate.target x) 1)
-                (small_paired n gate v x 0 valid size all h (omega arith)) (small_paired n gate v x 1 valid size all h (omega arith)) in
+        (valid.entries (digit n gate.target x) 0) (valid.entries (digit n gate.target x) 1)
+        (small_paired n gate v x 0 valid size all h (omega arith)) (small_paired n gate v x 1 valid size all h (omega arith)) in
         record { left = λ c. row.left; right = λ c. row.right; sums = λ c. row.sums }
 
 -- the pair at x, which isn't written yet
@@ -301,6 +301,6 @@ row_of_zeros gate row p q a b =
 pub zeros_stay : (gate : Gate) (v : List Amplitude) (x w : ℕ) → amplitude_at v x ≡ amplitude_zero → amplitude_at v (x + w) ≡ amplitude_zero → v ≡ written w gate v x
 zeros_stay gate v x w a b =
     let first : set v x (row_of gate 0 (amplitude_at v x) (amplitude_at v (x + w))) ≡ v =
-            ap (set v x) (row_of_zeros gate 0 _ _ a b ∙ sym a) ∙ set-get_or v x amplitude_zero in
+    ap (set v x) (row_of_zeros gate 0 _ _ a b ∙ sym a) ∙ set-get_or v x amplitude_zero in
     sym (ap (λ u. set u (x + w) (row_of gate 1 (amplitude_at v x) (amplitude_at v (x + w)))) first
     ∙ ap (set v (x + w)) (row_of_zeros gate 1 _ _ a b ∙ sym b) ∙ set-get_or v (x + w) amplitude_zero)

@@ -1,5 +1,5 @@
 -- Small amplitudes: what rows make of them fits.
-use Rattle.std.proofs.Common.{◌≡◌, ◌≢◌, ℕ, zero, suc, ◌+◌, ◌-◌, ◌*◌, ◌^◌, ◌<◌, ◌≤◌, max, List, length, refl, sym, ap, ◌∙◌, subst, arith, ℤ, pos, negsuc, ◌+ℤ◌, ◌-ℤ◌, neg_ℤ, unsigned_abs}
+use Rattle.std.proofs.Common.{◌≡◌, ℕ, zero, suc, ◌+◌, ◌-◌, ◌^◌, ◌<◌, ◌≤◌, max, refl, sym, ap, ◌∙◌, subst, arith, ℤ, pos, negsuc, ◌+ℤ◌, ◌-ℤ◌, neg_ℤ, unsigned_abs}
 use Rattle.std.proofs.lemmas.Int.{ints}
 use Rattle.std.proofs.Math.Pow.{pow_mono, add-lt-pow}
 use Rattle.std.proofs.lemmas.Nat.{pow_pos}
@@ -7,12 +7,12 @@ use Rattle.std.proofs.Math.Nat.{two-pow-succ}
 use Rattle.std.specs.Int.RustNames.{int_div}
 use Rattle.aq_ring.specs.Quads.{Quad, quad_zero, quad_sum, quad_neg, turned, turned_by, times_root, times_roots, over_root}
 use Rattle.aq_ring.specs.Fractions.{Amplitude, IsInRange}
-use Rattle.aq_ring.specs.Amplitudes.{num_at, lowest_form, sum, turn, quotient, amplitude_zero, FitsSum, FitsQuotient}
+use Rattle.aq_ring.specs.Amplitudes.{num_at, lowest_form, sum, turn, quotient, amplitude_zero, FitsSum}
 use Rattle.aq_ring.specs.Small.{IsSmall, IsSmallQuad}
 use Rattle.aq_ring.proofs.QuadLaws.{turned-four}
 use Rattle.aq_ring.proofs.ReduceLaws.{times_roots-sum, times_roots-zero, in_range_earlier}
 use Rattle.aq_ring.proofs.AmplitudeLaws.{one_lowest_form, lowest_form-power, lowest_form-num_at, num_at-lowest_form, sum-power, num_at-sum, num_at-later, num_at-turn, num_at-quotient, turn-power, quotient-power}
-use Rattle.aq_prog.specs.Gates.{divided, term, FitsDivided, FitsTerm, IsEntry}
+use Rattle.aq_prog.specs.Gates.{divided, term, FitsTerm, IsEntry}
 use Rattle.aq_prog.specs.declared.gate.Entry.{Entry}
 use Rattle.aq_prog.specs.declared.gate.Entry.TheVariants as entry
 use Rattle.aq_plain.specs.Small.{IsBelow, IsFraction, IsSmallAmplitude}
@@ -128,11 +128,13 @@ small_term_fits (entry.Unit j (suc (suc e))) p valid h = let few = valid.1 in ab
 
 low_sum_fits : (p q : Amplitude) → IsLow p → IsLow q → FitsSum p q
 unfolding times_roots
-low_sum_fits p q h l = record { unless_zero = λ _ _. record {
-  left = earlier p h (omega arith);
-  right = earlier q l (omega arith);
-  sums = in_range_earlier 0 (61 - m) (quad_sum (num_at m p) (num_at m q)) (omega arith) (subst IsInRange (sym both) (below_range 124 _ (omega arith) (below_sum 123 _ _ h.below l.below)));
-} }
+low_sum_fits p q h l = record {
+  unless_zero = λ _ _. record {
+    left = earlier p h (omega arith);
+    right = earlier q l (omega arith);
+    sums = in_range_earlier 0 (61 - m) (quad_sum (num_at m p) (num_at m q)) (omega arith) (subst IsInRange (sym both) (below_range 124 _ (omega arith) (below_sum 123 _ _ h.below l.below)));
+  };
+}
   where
     m : ℕ
     m = max p.power q.power

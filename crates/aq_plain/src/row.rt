@@ -86,13 +86,7 @@ pub(crate) fn always_fits(first: Entry, second: Entry) -> bool
 /// The sum of the two terms, where it fits. `small`: both amplitudes are.
 #[inline(always)]
 #[tactic(auto, using(crate::proofs::PairLaws::zero_after, crate::proofs::PairLaws::zero_before))]
-pub(crate) fn fitting_sum(
-    first: Entry,
-    second: Entry,
-    left: Amp,
-    right: Amp,
-    small: bool,
-) -> Amp
+pub(crate) fn fitting_sum(first: Entry, second: Entry, left: Amp, right: Amp, small: bool) -> Amp
     requires first { IsEntry first }
     requires second { IsEntry second }
     requires fits { FitsRow first second left right }

@@ -26,7 +26,11 @@ fn has_small_parts(amp: Amp) -> bool
     ensures { OnTrue result (IsSmallAmplitude amp) }
 {
     let [a, b, c, d] = amp.coefs();
-    amp.power() <= 60 && is_small_number(a) && is_small_number(b) && is_small_number(c) && is_small_number(d)
+    amp.power() <= 60
+        && is_small_number(a)
+        && is_small_number(b)
+        && is_small_number(c)
+        && is_small_number(d)
 }
 
 /// The same, where most amplitudes are zero.

@@ -1,5 +1,4 @@
-use Rattle.std.proofs.Common.{◌≡◌, ◌+◌, ◌∙◌, arith, rules, sym}
-use Rattle.std.proofs.lemmas.List.{get_or_read}
+use Rattle.std.proofs.Common.{◌≡◌, ◌+◌, ◌∙◌, rules, sym}
 use Rattle.aq_ring.specs.Amplitudes.{amplitude_zero}
 use Rattle.aq_prog.specs.Digits.{amplitude_at}
 use Rattle.aq_plain.proofs.PairLaws.{zeros_stay}

@@ -1,4 +1,4 @@
-use Rattle.std.proofs.Common.{◌≡◌, sym, ap, ◌∙◌, arith, rules}
+use Rattle.std.proofs.Common.{◌≡◌, ap, ◌∙◌, arith, rules}
 use Rattle.aq_ring.specs.Amplitudes.{amplitude_zero}
 use Rattle.aq_ring.specs.Quads.{turned_by}
 use Rattle.aq_plain.proofs.SmallLaws.{fraction_is, term_of_zero}

@@ -1,4 +1,4 @@
-use Rattle.std.proofs.Common.{◌≡◌, Option, None, sym, ap, ◌∙◌, subst, arith}
+use Rattle.std.proofs.Common.{◌≡◌, Option, None, sym, ◌∙◌, subst}
 use Rattle.std.specs.Option.{MatchOption}
 use Rattle.aq_ring.proofs.CodeLemmas.{sum_with_zero, sum_onto_zero}
 use Rattle.aq_plain.specs.declared.small.Fraction.{Fraction}

@@ -1,8 +1,6 @@
-use Rattle.std.proofs.Common.{◌≡◌, ◌-◌, max, sym, ap, ◌∙◌, subst, arith}
-use Rattle.aq_ring.specs.Amplitudes.{lowest_form}
-use Rattle.aq_ring.specs.Quads.{quad_sum, times_roots}
+use Rattle.std.proofs.Common.{◌-◌, sym, ◌∙◌, subst, arith}
 use Rattle.aq_plain.specs.Small.{IsBelow}
-use Rattle.aq_plain.proofs.SmallLaws.{roots_low, below_later, below_sum, sum_of_fractions, made_over}
+use Rattle.aq_plain.proofs.SmallLaws.{roots_low, below_later, below_sum, made_over}
 use Rattle.aq_plain.proofs.small.sum_of.Goals as goal
 
 pub sum-requires-clause-left : goal.sum-requires-clause-left

@@ -1,5 +1,5 @@
-use Rattle.std.proofs.Common.{rules, ◌≡◌, ◌==◌, ◌≤◌, ◌<◌, ◌↔◌, IsTrue, ℕ, ◌+◌, ◌-◌, ◌*◌, length, sym, ap, ◌∙◌, arith, subst, ℤ, pos, ◌+ℤ◌, ◌-ℤ◌, FitsSigned, to_z, of_z}
-use Rattle.aq_ring.specs.Quads.{quad_neg, times_root, times_roots}
+use Rattle.std.proofs.Common.{◌+◌, sym, ap, ◌∙◌, arith, subst}
+use Rattle.aq_ring.specs.Quads.{times_root}
 use Rattle.aq_plain.proofs.numerator.Numerator.times_roots.Goals as goal
 use Rattle.aq_ring.proofs.CodeLemmas.{times_roots-more, times_roots-none}
 use Rattle.aq_plain.proofs.SmallLaws.{below_later, below_roots}

@@ -1,5 +1,5 @@
-use Rattle.std.proofs.Common.{◌≡◌, ◌+◌, ◌-◌, sym, ap, ◌∙◌, arith, subst}
-use Rattle.aq_ring.specs.Quads.{quad_neg, turned_by}
+use Rattle.std.proofs.Common.{sym, ap, ◌∙◌, arith, subst}
+use Rattle.aq_ring.specs.Quads.{quad_neg}
 use Rattle.aq_plain.proofs.SmallLaws.{below_turned_by, turned_by-half}
 use Rattle.aq_plain.specs.Small.{IsBelow}
 use Rattle.aq_plain.proofs.numerator.Numerator.turned_by.Goals as goal

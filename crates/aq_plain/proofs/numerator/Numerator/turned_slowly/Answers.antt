@@ -1,4 +1,4 @@
-use Rattle.std.proofs.Common.{◌≡◌, refl, sym, ap, ◌∙◌, subst}
+use Rattle.std.proofs.Common.{refl, sym, ap, ◌∙◌, subst}
 use Rattle.aq_ring.specs.Quads.{turned, turned_by}
 use Rattle.aq_ring.proofs.CodeLemmas.{turned_by-more}
 use Rattle.aq_plain.proofs.SmallLaws.{below_turned_by}
