@@ -1,5 +1,5 @@
 -- Small amplitudes: what rows make of them fits.
-use Rattle.std.proofs.Common.{◌≡◌, ℕ, zero, suc, ◌+◌, ◌-◌, ◌^◌, ◌<◌, ◌≤◌, max, refl, sym, ap, ◌∙◌, subst, arith, ℤ, pos, negsuc, ◌+ℤ◌, ◌-ℤ◌, neg_ℤ, unsigned_abs}
+use Rattle.std.proofs.Common.{◌/◌, ◌%◌, ◌≢◌, ⊎_elim, ◌≡◌, ℕ, zero, suc, ◌+◌, ◌-◌, ◌^◌, ◌<◌, ◌≤◌, max, refl, sym, ap, ◌∙◌, subst, arith, ℤ, pos, negsuc, ◌+ℤ◌, ◌-ℤ◌, neg_ℤ, unsigned_abs}
 use Rattle.std.proofs.lemmas.Int.{ints}
 use Rattle.std.proofs.Math.Pow.{pow_mono, add-lt-pow}
 use Rattle.std.proofs.lemmas.Nat.{pow_pos}
@@ -9,7 +9,9 @@ use Rattle.aq_ring.specs.Quads.{Quad, quad_zero, quad_sum, quad_neg, turned, tur
 use Rattle.aq_ring.specs.Fractions.{Amplitude, IsInRange}
 use Rattle.aq_ring.specs.Amplitudes.{num_at, lowest_form, sum, turn, quotient, amplitude_zero, FitsSum}
 use Rattle.aq_ring.specs.Small.{IsSmall, IsSmallQuad}
-use Rattle.aq_ring.proofs.QuadLaws.{turned-four}
+use Rattle.std.proofs.lemmas.Bool.{cases_eq}
+use Rattle.aq_ring.proofs.Ints.{linear}
+use Rattle.aq_ring.proofs.QuadLaws.{same_quad, turned-four}
 use Rattle.aq_ring.proofs.ReduceLaws.{times_roots-sum, times_roots-zero, in_range_earlier}
 use Rattle.aq_ring.proofs.AmplitudeLaws.{one_lowest_form, lowest_form-power, lowest_form-num_at, num_at-lowest_form, sum-power, num_at-sum, num_at-later, num_at-turn, num_at-quotient, turn-power, quotient-power}
 use Rattle.aq_prog.specs.Gates.{divided, term, FitsTerm, IsEntry}
@@ -56,10 +58,40 @@ below_root k x h = record {
   d = difference_below k x.c x.a h.c h.a;
 }
 
-pub below_roots : (n k : ℕ) (x : Quad) → IsBelow k x → IsBelow (n + k) (times_roots n x)
+pub below_sum : (k : ℕ) (x y : Quad) → IsBelow k x → IsBelow k y → IsBelow (suc k) (quad_sum x y)
+unfolding quad_sum
+below_sum k x y h l = record { a = sum_below k x.a y.a h.a l.a; b = sum_below k x.b y.b h.b l.b; c = sum_below k x.c y.c h.c l.c; d = sum_below k x.d y.d h.d l.d }
+
+two_roots : (x : Quad) → times_root (times_root x) ≡ quad_sum x x
+unfolding times_root quad_sum
+two_roots x =
+    let a : x.a +ℤ x.c -ℤ (x.c -ℤ x.a) ≡ x.a +ℤ x.a = omega (arith, linear) in
+    let b : x.b -ℤ x.d +ℤ (x.b +ℤ x.d) ≡ x.b +ℤ x.b = omega (arith, linear) in
+    let c : x.a +ℤ x.c +ℤ (x.c -ℤ x.a) ≡ x.c +ℤ x.c = omega (arith, linear) in
+    let d : x.b +ℤ x.d -ℤ (x.b -ℤ x.d) ≡ x.d +ℤ x.d = omega (arith, linear) in
+    same_quad _ _ a b c d
+
+below_doubled : (m k : ℕ) (x : Quad) → IsBelow k x → IsBelow (m + k) (times_roots (m + m) x)
 unfolding times_roots
-below_roots zero k x h = subst (λ l. IsBelow l x) (omega arith) h
-below_roots (suc n) k x h = subst (λ l. IsBelow l (times_root (times_roots n x))) (omega arith) (below_root (n + k) (times_roots n x) (below_roots n k x h))
+below_doubled zero k x h = subst (λ l. IsBelow l x) (omega arith) h
+below_doubled (suc m) k x h =
+    let next : suc (suc (m + m)) ≡ suc m + suc m = omega arith in
+    let more : suc (m + k) ≡ suc m + k = omega arith in
+    let y = times_roots (m + m) x in
+    subst (λ l. IsBelow l (times_roots (suc m + suc m) x)) more (subst (λ n. IsBelow (suc (m + k)) (times_roots n x)) next
+    (subst (IsBelow (suc (m + k))) (sym (two_roots y)) (below_sum (m + k) y y (below_doubled m k x h) (below_doubled m k x h))))
+
+-- each two products with sqrt(2) double
+pub below_roots : (n k : ℕ) (x : Quad) → IsBelow k x → IsBelow (suc (n / 2 + k)) (times_roots n x)
+unfolding times_roots
+below_roots n k x h = ⊎_elim
+    (λ (even : n % 2 ≡ 0).
+    let e : n / 2 + n / 2 ≡ n = omega arith in
+    below_later (n / 2 + k) (suc (n / 2 + k)) _ (omega arith) (subst (λ i. IsBelow (n / 2 + k) (times_roots i x)) e (below_doubled (n / 2) k x h)))
+    (λ (odd : n % 2 ≢ 0).
+    let e : suc (n / 2 + n / 2) ≡ n = omega arith in
+    subst (λ i. IsBelow (suc (n / 2 + k)) (times_roots i x)) e (below_root (n / 2 + k) (times_roots (n / 2 + n / 2) x) (below_doubled (n / 2) k x h)))
+    (cases_eq (n % 2) 0)
 
 pub below_turned : (k : ℕ) (x : Quad) → IsBelow k x → IsBelow k (turned x)
 unfolding turned
@@ -70,10 +102,6 @@ unfolding turned_by
 below_turned_by zero k x h = h
 below_turned_by (suc j) k x h = below_turned k (turned_by j x) (below_turned_by j k x h)
 
-pub below_sum : (k : ℕ) (x y : Quad) → IsBelow k x → IsBelow k y → IsBelow (suc k) (quad_sum x y)
-unfolding quad_sum
-below_sum k x y h l = record { a = sum_below k x.a y.a h.a l.a; b = sum_below k x.b y.b h.b l.b; c = sum_below k x.c y.c h.c l.c; d = sum_below k x.d y.d h.d l.d }
-
 below_zero : (k : ℕ) → IsBelow k quad_zero
 below_zero k = let p = pow_pos k in record { a = omega arith; b = omega arith; c = omega arith; d = omega arith }
 
@@ -83,25 +111,25 @@ below_range k x h b = let c = below_later k 127 x h b in record { a = c.a; b = c
 pub small_below : (x : Quad) → IsSmallQuad x → IsBelow 62 x
 small_below x h = record { a = h.a.size; b = h.b.size; c = h.c.size; d = h.d.size }
 
--- ---- terms of small amplitudes, over sqrt(2)^61
+-- ---- terms of small amplitudes, over sqrt(2)^121
 
--- p over sqrt(2)^61 has coefficients below 2^123
+-- p over sqrt(2)^121 has coefficients below 2^123
 record IsLow (p : Amplitude) : Type 0 where
-  pub power : p.power ≤ 61
-  pub below : IsBelow 123 (num_at 61 p)
+  pub power : p.power ≤ 121
+  pub below : IsBelow 123 (num_at 121 p)
 
 low_zero : IsLow amplitude_zero
-low_zero = record { power = omega arith; below = subst (IsBelow 123) (sym (times_roots-zero 61)) (below_zero 123) }
+low_zero = record { power = omega arith; below = subst (IsBelow 123) (sym (times_roots-zero 121)) (below_zero 123) }
 
-small_at : (p : Amplitude) (n : ℕ) → IsSmallAmplitude p → n ≤ 61 → IsBelow 123 (num_at n p)
-small_at p n h l = below_later (n - p.power + 62) 123 (num_at n p) (let q = h.power in omega arith) (below_roots (n - p.power) 62 p.num (small_below p.num h.coefficients))
+small_at : (p : Amplitude) (n : ℕ) → IsSmallAmplitude p → n ≤ 121 → IsBelow 123 (num_at n p)
+small_at p n h l = below_later (suc ((n - p.power) / 2 + 62)) 123 (num_at n p) (let q = h.power in omega arith) (below_roots (n - p.power) 62 p.num (small_below p.num h.coefficients))
 
 low_turn : (j : ℕ) (p : Amplitude) → IsSmallAmplitude p → IsLow (turn j p)
 low_turn j p h =
     let q = h.power in let t = turn-power j p in
     record {
       power = omega arith;
-      below = subst (IsBelow 123) (sym (num_at-turn 61 j p (omega arith))) (below_turned_by j 123 (num_at 61 p) (small_at p 61 h (omega arith)));
+      below = subst (IsBelow 123) (sym (num_at-turn 121 j p (omega arith))) (below_turned_by j 123 (num_at 121 p) (small_at p 121 h (omega arith)));
     }
 
 low_quotient : (j : ℕ) (p : Amplitude) → IsSmallAmplitude p → IsLow (quotient (turn j p))
@@ -109,7 +137,7 @@ low_quotient j p h =
     let q = h.power in let t = turn-power j p in let d = quotient-power (turn j p) in
     record {
       power = omega arith;
-      below = subst (IsBelow 123) (sym (num_at-quotient 60 (turn j p) (omega arith) ∙ num_at-turn 60 j p (omega arith))) (below_turned_by j 123 (num_at 60 p) (small_at p 60 h (omega arith)));
+      below = subst (IsBelow 123) (sym (num_at-quotient 120 (turn j p) (omega arith) ∙ num_at-turn 120 j p (omega arith))) (below_turned_by j 123 (num_at 120 p) (small_at p 120 h (omega arith)));
     }
 
 low_term : (e : Entry) (p : Amplitude) → IsEntry e → IsSmallAmplitude p → IsLow (term e p)
@@ -132,21 +160,21 @@ low_sum_fits p q h l = record {
   unless_zero = λ _ _. record {
     left = earlier p h (omega arith);
     right = earlier q l (omega arith);
-    sums = in_range_earlier 0 (61 - m) (quad_sum (num_at m p) (num_at m q)) (omega arith) (subst IsInRange (sym both) (below_range 124 _ (omega arith) (below_sum 123 _ _ h.below l.below)));
+    sums = in_range_earlier 0 (121 - m) (quad_sum (num_at m p) (num_at m q)) (omega arith) (subst IsInRange (sym both) (below_range 124 _ (omega arith) (below_sum 123 _ _ h.below l.below)));
   };
 }
   where
     m : ℕ
     m = max p.power q.power
 
-    in_61 : max p.power q.power ≤ 61
-    in_61 = let a = h.power in let b = l.power in omega arith
+    in_121 : max p.power q.power ≤ 121
+    in_121 = let a = h.power in let b = l.power in omega arith
 
     earlier : (r : Amplitude) → IsLow r → r.power ≤ m → IsInRange (num_at m r)
-    earlier r k le = in_range_earlier 0 (61 - m) (num_at m r) (omega arith) (subst IsInRange (sym (num_at-later m 61 r le in_61)) (below_range 123 _ (omega arith) k.below))
+    earlier r k le = in_range_earlier 0 (121 - m) (num_at m r) (omega arith) (subst IsInRange (sym (num_at-later m 121 r le in_121)) (below_range 123 _ (omega arith) k.below))
 
-    both : times_roots (61 - m) (quad_sum (num_at m p) (num_at m q)) ≡ quad_sum (num_at 61 p) (num_at 61 q)
-    both = times_roots-sum (61 - m) _ _ ∙ (λ i. quad_sum (num_at-later m 61 p (omega arith) in_61 i) (num_at-later m 61 q (omega arith) in_61 i))
+    both : times_roots (121 - m) (quad_sum (num_at m p) (num_at m q)) ≡ quad_sum (num_at 121 p) (num_at 121 q)
+    both = times_roots-sum (121 - m) _ _ ∙ (λ i. quad_sum (num_at-later m 121 p (omega arith) in_121 i) (num_at-later m 121 q (omega arith) in_121 i))
 
 -- each row fits on two small amplitudes
 pub small_row_fits : (e f : Entry) (p q : Amplitude) → IsEntry e → IsEntry f → IsSmallAmplitude p → IsSmallAmplitude q → FitsRow e f p q
@@ -205,9 +233,9 @@ term_is j (suc zero) p h =
     ∙ ap (λ k. lowest_form k (turned_by j p.num)) next
 term_is j (suc (suc e)) p h = absurd (omega arith)
 
--- a small numerator times sqrt(2)^n, where two of such powers are at most 61
-pub roots_low : (n : ℕ) (x y : Quad) → n ≤ 61 → IsBelow 62 x → y ≡ times_roots n x → IsBelow 125 y
-roots_low n x y h b e = subst (IsBelow 125) (sym e) (below_later (n + 62) 125 (times_roots n x) (omega arith) (below_roots n 62 x b))
+-- a small numerator times sqrt(2)^n, where two of such powers are at most 121
+pub roots_low : (n : ℕ) (x y : Quad) → n ≤ 121 → IsBelow 62 x → y ≡ times_roots n x → IsBelow 125 y
+roots_low n x y h b e = subst (IsBelow 125) (sym e) (below_later (suc (n / 2 + 62)) 125 (times_roots n x) (omega arith) (below_roots n 62 x b))
 
 divided_zero : (e : ℕ) → divided e amplitude_zero ≡ amplitude_zero
 divided_zero zero = refl

@@ -1,7 +1,8 @@
 -- Amplitudes so small that each row of a gate's matrix fits on every two of them.
 --
--- The product with sqrt(2) at most doubles a coefficient, and the quotient makes none larger than the largest was. So over
--- one power of at most 61 the coefficients of such amplitudes stay below 2^123, and those of a sum below 2^124.
+-- The product with sqrt(2) at most doubles a coefficient, two of them double it, and the quotient makes none larger than the
+-- largest was. So over one power of at most 121 the coefficients of such amplitudes stay below 2^123, and those of a sum
+-- below 2^124.
 use Rattle.std.specs.Prelude.{◌≡◌, ℕ, ◌<◌, ◌≤◌, ◌^◌, unsigned_abs}
 use Rattle.aq_ring.specs.Quads.{Quad}
 use Rattle.aq_ring.specs.Fractions.{Amplitude}
@@ -16,13 +17,13 @@ pub record IsBelow (k : ℕ) (x : Quad) : Type 0 where
   pub c : unsigned_abs x.c < 2 ^ k
   pub d : unsigned_abs x.d < 2 ^ k
 
--- each coefficient is below 2^62 in absolute value, and the power of sqrt(2) is at most 60
+-- each coefficient is below 2^62 in absolute value, and the power of sqrt(2) is at most 120
 pub record IsSmallAmplitude (p : Amplitude) : Type 0 where
   pub coefficients : IsSmallQuad p.num
-  pub power : p.power ≤ 60
+  pub power : p.power ≤ 120
 
 -- a fraction of small parts that is this amplitude
 pub record IsFraction (p : Amplitude) (f : Fraction) : Type 0 where
   pub same : p ≡ lowest_form f.power f.num
   pub coefficients : IsBelow 62 f.num
-  pub power : f.power ≤ 61
+  pub power : f.power ≤ 121

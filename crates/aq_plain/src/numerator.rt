@@ -244,7 +244,7 @@ impl Numerator {
     #[inline]
     pub(crate) fn times_roots(self, n: u32) -> Numerator
         requires small { IsBelow 62 self }
-        requires few { n ≤ 61 }
+        requires few { n ≤ 121 }
         ensures { result ≡ times_roots n self }
     {
         let mut number = self;

@@ -26,7 +26,7 @@ fn has_small_parts(amp: Amp) -> bool
     ensures { OnTrue result (IsSmallAmplitude amp) }
 {
     let [a, b, c, d] = amp.coefs();
-    amp.power() <= 60
+    amp.power() <= 120
         && is_small_number(a)
         && is_small_number(b)
         && is_small_number(c)
@@ -84,8 +84,8 @@ fn fraction_of(entry: Entry, amp: Amp) -> Option<Fraction>
 fn sum_of(left: Fraction, right: Fraction) -> Amp
     requires left { IsBelow 62 left.num }
     requires right { IsBelow 62 right.num }
-    requires left_power { left.power ≤ 61 }
-    requires right_power { right.power ≤ 61 }
+    requires left_power { left.power ≤ 121 }
+    requires right_power { right.power ≤ 121 }
     ensures { result ≡ sum (lowest_form left.power left.num) (lowest_form right.power right.num) }
 {
     let power = left.power.max(right.power);
