@@ -136,6 +136,7 @@ pub(crate) fn write_gate(amps: &mut [Amp], qubits: u32, gate: &Gate, small: bool
 }
 
 /// Writes the two new amplitudes at the index and so far behind it. Two zeros stay. `small`: the old ones are.
+#[inline]
 fn write_pair(amps: &mut [Amp], gate: &Gate, low: usize, weight: usize, small: bool)
     requires entries { AreEntries gate.now.matrix.rows }
     requires within { low + weight < length amps.old }
@@ -148,10 +149,27 @@ fn write_pair(amps: &mut [Amp], gate: &Gate, low: usize, weight: usize, small: b
         (amplitude_at amps.old (low + weight))))
         (low + weight) (row_of gate.now 1 (amplitude_at amps.old low) (amplitude_at amps.old (low + weight))) }
 {
-    let (left, right) = (amps[low], amps[low + weight]);
-    if left.is_zero() && right.is_zero() {
+    if amps[low].is_zero() && amps[low + weight].is_zero() {
         return;
     }
+    write_rows(amps, gate, low, weight, small);
+}
+
+/// Writes both rows of the two amplitudes.
+#[inline(never)]
+fn write_rows(amps: &mut [Amp], gate: &Gate, low: usize, weight: usize, small: bool)
+    requires entries { AreEntries gate.now.matrix.rows }
+    requires within { low + weight < length amps.old }
+    requires apart { 0 < weight }
+    requires top { FitsRowOf gate.now 0 (amplitude_at amps.old low) (amplitude_at amps.old (low + weight)) }
+    requires bottom { FitsRowOf gate.now 1 (amplitude_at amps.old low) (amplitude_at amps.old (low + weight)) }
+    requires small_low { OnTrue small (IsSmallAmplitude (amplitude_at amps.old low)) }
+    requires small_high { OnTrue small (IsSmallAmplitude (amplitude_at amps.old (low + weight))) }
+    ensures { amps.new ≡ slice_set (slice_set amps.old low (row_of gate.now 0 (amplitude_at amps.old low)
+        (amplitude_at amps.old (low + weight))))
+        (low + weight) (row_of gate.now 1 (amplitude_at amps.old low) (amplitude_at amps.old (low + weight))) }
+{
+    let (left, right) = (amps[low], amps[low + weight]);
     let rows = gate.matrix.rows;
     amps[low] = fitting_sum(rows[0][0], rows[0][1], left, right, small);
     amps[low + weight] = fitting_sum(rows[1][0], rows[1][1], left, right, small);
