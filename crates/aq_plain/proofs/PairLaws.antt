@@ -8,15 +8,15 @@ use Rattle.aq_ring.specs.Fractions.{Amplitude}
 use Rattle.aq_ring.specs.Amplitudes.{amplitude_zero, sum}
 use Rattle.aq_ring.proofs.AmplitudeLaws.{sum-zero, sum_comm}
 use Rattle.aq_prog.specs.Digits.{weight, digit, with_digit, amplitude_at}
-use Rattle.aq_prog.specs.Gates.{term, term_at, entry_at, is_controlled, gate_entry, apply_gate, IsValidGate, FitsGate, FitsGateAt}
+use Rattle.aq_prog.specs.Gates.{term, term_at, entry_at, is_controlled, gate_entry, apply_gate, IsValidGate, FitsGate, FitsGateAt, IsEntry}
 use Rattle.aq_prog.specs.declared.gate.Entry.{Entry}
 use Rattle.aq_prog.specs.declared.gate.Entry.TheVariants as entry
 use Rattle.aq_prog.specs.declared.gate.Gate.{Gate}
 use Rattle.aq_prog.proofs.DigitLaws.{weight-positive, digit-below, digit-with_digit, with_digit-with_digit, with_digit-own, with_digit-below, controlled-other, length-tabulate, get_or-tabulate}
 use Rattle.aq_plain.specs.Wide.{AlwaysFits, FitsRow, FitsRowOf, row_of, RowGives, row_entry, paired}
 use Rattle.aq_plain.specs.declared.row.WideSum.{WideSum}
-use Rattle.aq_plain.specs.Small.{IsSmallAmplitude}
-use Rattle.aq_plain.proofs.SmallLaws.{small_row_fits, term_of_zero}
+use Rattle.aq_plain.specs.Small.{AreNear, IsNear, IsSmallAmplitude}
+use Rattle.aq_plain.proofs.SmallLaws.{near_row_fits, small_row_fits, term_of_zero}
 
 pub RowGives-same : (rows : List (List Entry)) (d e : ℕ) (p q s t : Amplitude) (r : Result Amplitude WideSum)
     → d ≡ e → p ≡ s → q ≡ t → RowGives (entry_at rows d 0) (entry_at rows d 1) p q r → RowGives (entry_at rows e 0) (entry_at rows e 1) s t r
@@ -266,20 +266,25 @@ pub on_true : (b : Bool) (P Q : Type 0) → (P → Q) → OnTrue b P → OnTrue 
 on_true true P Q f h = f h
 on_true false P Q f h = h
 
-small_paired : (n : ℕ) (gate : Gate) (v : List Amplitude) (x column : ℕ) → IsValidGate n gate → length v ≡ 2 ^ n → All IsSmallAmplitude v → x < length v → column < 2
-    → IsSmallAmplitude (paired n gate v x column)
-small_paired n gate v x column valid size all h b = all (with_digit n gate.target column x) amplitude_zero (rw size (with_digit-below n gate.target column x valid.target b (rw size at h)))
-
--- a gate fits on small amplitudes
-pub fits_on_small : (n : ℕ) (gate : Gate) (v : List Amplitude) → IsValidGate n gate → length v ≡ 2 ^ n → All IsSmallAmplitude v → FitsGate n gate v
-fits_on_small n gate v valid size all = record { at = at }
+-- a gate fits where each of its rows does on what is true of all amplitudes
+fits_on_all : (n : ℕ) (gate : Gate) (v : List Amplitude) (P : Amplitude → Type 0) → IsValidGate n gate → length v ≡ 2 ^ n → All P v
+    → ((e f : Entry) (p q : Amplitude) → IsEntry e → IsEntry f → P p → P q → FitsRow e f p q) → FitsGate n gate v
+fits_on_all n gate v P valid size all rows = record { at = at }
   where
+    here : (x column : ℕ) → x < length v → column < 2 → P (paired n gate v x column)
+    here x column h b = all (with_digit n gate.target column x) amplitude_zero (rw size (with_digit-below n gate.target column x valid.target b (rw size at h)))
+
     at : (x : ℕ) → x < length v → FitsGateAt n gate v x
     at x h =
-        let row = small_row_fits (row_entry n gate x 0) (row_entry n gate x 1) (paired n gate v x 0) (paired n gate v x 1)
-        (valid.entries (digit n gate.target x) 0) (valid.entries (digit n gate.target x) 1)
-        (small_paired n gate v x 0 valid size all h (omega arith)) (small_paired n gate v x 1 valid size all h (omega arith)) in
+        let row = rows (row_entry n gate x 0) (row_entry n gate x 1) (paired n gate v x 0) (paired n gate v x 1)
+        (valid.entries (digit n gate.target x) 0) (valid.entries (digit n gate.target x) 1) (here x 0 h (omega arith)) (here x 1 h (omega arith)) in
         record { left = λ c. row.left; right = λ c. row.right; sums = λ c. row.sums }
+
+pub fits_on_small : (n : ℕ) (gate : Gate) (v : List Amplitude) → IsValidGate n gate → length v ≡ 2 ^ n → All IsSmallAmplitude v → FitsGate n gate v
+fits_on_small n gate v valid size all = fits_on_all n gate v IsSmallAmplitude valid size all small_row_fits
+
+pub fits_on_near : (n : ℕ) (gate : Gate) (v : List Amplitude) → IsValidGate n gate → length v ≡ 2 ^ n → AreNear v → FitsGate n gate v
+fits_on_near n gate v valid size near = fits_on_all n gate v (IsNear near.low) valid size near.each (λ e f p q. near_row_fits near.low e f p q near.few)
 
 -- the pair at x, which isn't written yet
 pub small_low : (n : ℕ) (gate : Gate) (old new : List Amplitude) (x : ℕ) → All IsSmallAmplitude old → x < length old → digit n gate.target x ≡ 0 → IsPartly n gate old new x

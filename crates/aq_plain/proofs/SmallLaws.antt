@@ -7,7 +7,7 @@ use Rattle.std.proofs.Math.Nat.{two-pow-succ}
 use Rattle.std.specs.Int.RustNames.{int_div}
 use Rattle.aq_ring.specs.Quads.{Quad, quad_zero, quad_sum, quad_neg, turned, turned_by, times_root, times_roots, over_root}
 use Rattle.aq_ring.specs.Fractions.{Amplitude, IsInRange}
-use Rattle.aq_ring.specs.Amplitudes.{num_at, lowest_form, sum, turn, quotient, amplitude_zero, FitsSum}
+use Rattle.aq_ring.specs.Amplitudes.{num_at, lowest_form, sum, turn, quotient, amplitude_zero, IsSumInRange}
 use Rattle.aq_ring.specs.Small.{IsSmall, IsSmallQuad}
 use Rattle.std.proofs.lemmas.Bool.{cases_eq}
 use Rattle.aq_ring.proofs.Ints.{linear}
@@ -17,7 +17,7 @@ use Rattle.aq_ring.proofs.AmplitudeLaws.{one_lowest_form, lowest_form-power, low
 use Rattle.aq_prog.specs.Gates.{divided, term, FitsTerm, IsEntry}
 use Rattle.aq_prog.specs.declared.gate.Entry.{Entry}
 use Rattle.aq_prog.specs.declared.gate.Entry.TheVariants as entry
-use Rattle.aq_plain.specs.Small.{IsBelow, IsFraction, IsSmallAmplitude}
+use Rattle.aq_plain.specs.Small.{IsBelow, IsFraction, IsNear, IsSmallAmplitude}
 use Rattle.aq_plain.specs.declared.small.Fraction.{Fraction}
 use Rattle.aq_ring.proofs.MoreLaws.{turn-zero, quotient-zero}
 use Rattle.aq_plain.specs.Wide.{FitsRow}
@@ -111,78 +111,112 @@ below_range k x h b = let c = below_later k 127 x h b in record { a = c.a; b = c
 pub small_below : (x : Quad) → IsSmallQuad x → IsBelow 62 x
 small_below x h = record { a = h.a.size; b = h.b.size; c = h.c.size; d = h.d.size }
 
--- ---- terms of small amplitudes, over sqrt(2)^121
+-- ---- terms of zero
 
--- p over sqrt(2)^121 has coefficients below 2^123
-record IsLow (p : Amplitude) : Type 0 where
-  pub power : p.power ≤ 121
-  pub below : IsBelow 123 (num_at 121 p)
+divided_zero : (e : ℕ) → divided e amplitude_zero ≡ amplitude_zero
+divided_zero zero = refl
+divided_zero (suc e) = ap quotient (divided_zero e) ∙ quotient-zero
 
-low_zero : IsLow amplitude_zero
-low_zero = record { power = omega arith; below = subst (IsBelow 123) (sym (times_roots-zero 121)) (below_zero 123) }
+pub term_of_zero : (e : Entry) (p : Amplitude) → p ≡ amplitude_zero → term e p ≡ amplitude_zero
+term_of_zero entry.Zero p h = refl
+term_of_zero (entry.Unit j e) p h = ap (divided e) (ap (turn j) h ∙ turn-zero j) ∙ divided_zero e
 
-small_at : (p : Amplitude) (n : ℕ) → IsSmallAmplitude p → n ≤ 121 → IsBelow 123 (num_at n p)
-small_at p n h l = below_later (suc ((n - p.power) / 2 + 62)) 123 (num_at n p) (let q = h.power in omega arith) (below_roots (n - p.power) 62 p.num (small_below p.num h.coefficients))
+-- ---- terms of amplitudes with room, over sqrt(2)^(m + 1)
 
-low_turn : (j : ℕ) (p : Amplitude) → IsSmallAmplitude p → IsLow (turn j p)
-low_turn j p h =
+-- p over sqrt(2)^n has coefficients below 2^123
+record IsLow (n : ℕ) (p : Amplitude) : Type 0 where
+  pub power : p.power ≤ n
+  pub below : IsBelow 123 (num_at n p)
+
+-- so has p over sqrt(2)^m and over the next power, unless it is zero
+record HasRoom (m : ℕ) (p : Amplitude) : Type 0 where
+  pub power : p.power ≤ m
+  pub here : p ≢ amplitude_zero → IsBelow 123 (num_at m p)
+  pub next : p ≢ amplitude_zero → IsBelow 123 (num_at (suc m) p)
+
+room_of_small : (p : Amplitude) → IsSmallAmplitude p → HasRoom 120 p
+room_of_small p h =
+    let q = h.power in
+    record {
+      power = q;
+      here = λ _. below_later (suc ((120 - p.power) / 2 + 62)) 123 (num_at 120 p) (omega arith) (below_roots (120 - p.power) 62 p.num (small_below p.num h.coefficients));
+      next = λ _. below_later (suc ((121 - p.power) / 2 + 62)) 123 (num_at 121 p) (omega arith) (below_roots (121 - p.power) 62 p.num (small_below p.num h.coefficients));
+    }
+
+room_of_near : (low : ℕ) (p : Amplitude) → IsNear low p → HasRoom (low + 40) p
+room_of_near low p h =
+    let q = h.most in
+    record {
+      power = q;
+      here = λ n. let l = h.least n in below_later (suc ((low + 40 - p.power) / 2 + 100)) 123 (num_at (low + 40) p) (omega arith) (below_roots (low + 40 - p.power) 100 p.num h.coefficients);
+      next = λ n. let l = h.least n in below_later (suc ((suc (low + 40) - p.power) / 2 + 100)) 123 (num_at (suc (low + 40)) p) (omega arith) (below_roots (suc (low + 40) - p.power) 100 p.num h.coefficients);
+    }
+
+low_turn : (m j : ℕ) (p : Amplitude) → p ≢ amplitude_zero → HasRoom m p → IsLow (suc m) (turn j p)
+low_turn m j p n h =
     let q = h.power in let t = turn-power j p in
     record {
       power = omega arith;
-      below = subst (IsBelow 123) (sym (num_at-turn 121 j p (omega arith))) (below_turned_by j 123 (num_at 121 p) (small_at p 121 h (omega arith)));
+      below = subst (IsBelow 123) (sym (num_at-turn (suc m) j p (omega arith))) (below_turned_by j 123 (num_at (suc m) p) (h.next n));
     }
 
-low_quotient : (j : ℕ) (p : Amplitude) → IsSmallAmplitude p → IsLow (quotient (turn j p))
-low_quotient j p h =
+low_quotient : (m j : ℕ) (p : Amplitude) → p ≢ amplitude_zero → HasRoom m p → IsLow (suc m) (quotient (turn j p))
+low_quotient m j p n h =
     let q = h.power in let t = turn-power j p in let d = quotient-power (turn j p) in
     record {
       power = omega arith;
-      below = subst (IsBelow 123) (sym (num_at-quotient 120 (turn j p) (omega arith) ∙ num_at-turn 120 j p (omega arith))) (below_turned_by j 123 (num_at 120 p) (small_at p 120 h (omega arith)));
+      below = subst (IsBelow 123) (sym (num_at-quotient m (turn j p) (omega arith) ∙ num_at-turn m j p (omega arith))) (below_turned_by j 123 (num_at m p) (h.here n));
     }
 
-low_term : (e : Entry) (p : Amplitude) → IsEntry e → IsSmallAmplitude p → IsLow (term e p)
-low_term entry.Zero p valid h = low_zero
-low_term (entry.Unit j zero) p valid h = low_turn j p h
-low_term (entry.Unit j (suc zero)) p valid h = low_quotient j p h
-low_term (entry.Unit j (suc (suc e))) p valid h = let few = valid.1 in absurd (omega arith)
+low_term : (m : ℕ) (e : Entry) (p : Amplitude) → IsEntry e → HasRoom m p → term e p ≢ amplitude_zero → IsLow (suc m) (term e p)
+low_term m entry.Zero p valid h n = absurd (n refl)
+low_term m (entry.Unit j zero) p valid h n = low_turn m j p (λ z. n (term_of_zero (entry.Unit j 0) p z)) h
+low_term m (entry.Unit j (suc zero)) p valid h n = low_quotient m j p (λ z. n (term_of_zero (entry.Unit j 1) p z)) h
+low_term m (entry.Unit j (suc (suc e))) p valid h n = let few = valid.1 in absurd (omega arith)
 
-small_term_fits : (e : Entry) (p : Amplitude) → IsEntry e → IsSmallAmplitude p → FitsTerm e p
-small_term_fits entry.Zero p valid h = tt
-small_term_fits (entry.Unit j zero) p valid h = tt
-small_term_fits (entry.Unit j (suc zero)) p valid h =
+term_fits : (m : ℕ) (e : Entry) (p : Amplitude) → suc m < 2 ^ 32 → IsEntry e → HasRoom m p → FitsTerm e p
+term_fits m entry.Zero p most valid h = tt
+term_fits m (entry.Unit j zero) p most valid h = tt
+term_fits m (entry.Unit j (suc zero)) p most valid h =
     let q = h.power in let t = turn-power j p in let d = quotient-power (turn j p) in
     (tt, omega arith)
-small_term_fits (entry.Unit j (suc (suc e))) p valid h = let few = valid.1 in absurd (omega arith)
+term_fits m (entry.Unit j (suc (suc e))) p most valid h = let few = valid.1 in absurd (omega arith)
 
-low_sum_fits : (p q : Amplitude) → IsLow p → IsLow q → FitsSum p q
+low_sum : (n : ℕ) (p q : Amplitude) → IsLow n p → IsLow n q → IsSumInRange p q
 unfolding times_roots
-low_sum_fits p q h l = record {
-  unless_zero = λ _ _. record {
-    left = earlier p h (omega arith);
-    right = earlier q l (omega arith);
-    sums = in_range_earlier 0 (121 - m) (quad_sum (num_at m p) (num_at m q)) (omega arith) (subst IsInRange (sym both) (below_range 124 _ (omega arith) (below_sum 123 _ _ h.below l.below)));
-  };
+low_sum n p q h l = record {
+  left = earlier p h (omega arith);
+  right = earlier q l (omega arith);
+  sums = in_range_earlier 0 (n - m) (quad_sum (num_at m p) (num_at m q)) (omega arith) (subst IsInRange (sym both) (below_range 124 _ (omega arith) (below_sum 123 _ _ h.below l.below)));
 }
   where
     m : ℕ
     m = max p.power q.power
 
-    in_121 : max p.power q.power ≤ 121
-    in_121 = let a = h.power in let b = l.power in omega arith
+    in_n : max p.power q.power ≤ n
+    in_n = let a = h.power in let b = l.power in omega arith
 
-    earlier : (r : Amplitude) → IsLow r → r.power ≤ m → IsInRange (num_at m r)
-    earlier r k le = in_range_earlier 0 (121 - m) (num_at m r) (omega arith) (subst IsInRange (sym (num_at-later m 121 r le in_121)) (below_range 123 _ (omega arith) k.below))
+    earlier : (r : Amplitude) → IsLow n r → r.power ≤ m → IsInRange (num_at m r)
+    earlier r k le = in_range_earlier 0 (n - m) (num_at m r) (omega arith) (subst IsInRange (sym (num_at-later m n r le in_n)) (below_range 123 _ (omega arith) k.below))
 
-    both : times_roots (121 - m) (quad_sum (num_at m p) (num_at m q)) ≡ quad_sum (num_at 121 p) (num_at 121 q)
-    both = times_roots-sum (121 - m) _ _ ∙ (λ i. quad_sum (num_at-later m 121 p (omega arith) in_121 i) (num_at-later m 121 q (omega arith) in_121 i))
+    both : times_roots (n - m) (quad_sum (num_at m p) (num_at m q)) ≡ quad_sum (num_at n p) (num_at n q)
+    both = times_roots-sum (n - m) _ _ ∙ (λ i. quad_sum (num_at-later m n p (omega arith) in_n i) (num_at-later m n q (omega arith) in_n i))
 
--- each row fits on two small amplitudes
-pub small_row_fits : (e f : Entry) (p q : Amplitude) → IsEntry e → IsEntry f → IsSmallAmplitude p → IsSmallAmplitude q → FitsRow e f p q
-small_row_fits e f p q v w h l = record {
-  left = small_term_fits e p v h;
-  right = small_term_fits f q w l;
-  sums = low_sum_fits (term e p) (term f q) (low_term e p v h) (low_term f q w l);
+-- each row fits on two amplitudes with room
+row_fits : (m : ℕ) (e f : Entry) (p q : Amplitude) → suc m < 2 ^ 32 → IsEntry e → IsEntry f → HasRoom m p → HasRoom m q → FitsRow e f p q
+row_fits m e f p q most v w h l = record {
+  left = term_fits m e p most v h;
+  right = term_fits m f q most w l;
+  sums = record { unless_zero = λ a b. low_sum (suc m) (term e p) (term f q) (low_term m e p v h a) (low_term m f q w l b) };
 }
+
+-- so on two small ones
+pub small_row_fits : (e f : Entry) (p q : Amplitude) → IsEntry e → IsEntry f → IsSmallAmplitude p → IsSmallAmplitude q → FitsRow e f p q
+small_row_fits e f p q v w h l = row_fits 120 e f p q (omega arith) v w (room_of_small p h) (room_of_small q l)
+
+-- and on two near ones
+pub near_row_fits : (low : ℕ) (e f : Entry) (p q : Amplitude) → low < 2 ^ 31 → IsEntry e → IsEntry f → IsNear low p → IsNear low q → FitsRow e f p q
+near_row_fits low e f p q few v w h l = row_fits (low + 40) e f p q (omega arith) v w (room_of_near low p h) (room_of_near low q l)
 
 -- ---- what is computed of numerators
 
@@ -237,14 +271,6 @@ term_is j (suc (suc e)) p h = absurd (omega arith)
 pub roots_low : (n : ℕ) (x y : Quad) → n ≤ 121 → IsBelow 62 x → y ≡ times_roots n x → IsBelow 125 y
 roots_low n x y h b e = subst (IsBelow 125) (sym e) (below_later (suc (n / 2 + 62)) 125 (times_roots n x) (omega arith) (below_roots n 62 x b))
 
-divided_zero : (e : ℕ) → divided e amplitude_zero ≡ amplitude_zero
-divided_zero zero = refl
-divided_zero (suc e) = ap quotient (divided_zero e) ∙ quotient-zero
-
-pub term_of_zero : (e : Entry) (p : Amplitude) → p ≡ amplitude_zero → term e p ≡ amplitude_zero
-term_of_zero entry.Zero p h = refl
-term_of_zero (entry.Unit j e) p h = ap (divided e) (ap (turn j) h ∙ turn-zero j) ∙ divided_zero e
-
 pub fraction_is : (j e : ℕ) (x : Entry) (p : Amplitude) (f : Fraction) → x ≡ entry.Unit j e → IsEntry x → IsSmallAmplitude p → f.num ≡ turned_by j p.num → f.power ≡ p.power + e → IsFraction (term x p) f
 fraction_is j e x p f is valid h a b =
     let bounds : IsEntry (entry.Unit j e) = subst IsEntry is valid in
@@ -265,3 +291,6 @@ zero_is_small p e = subst IsSmallAmplitude (sym e) (record { coefficients = reco
   where
     nothing : IsSmall (pos 0)
     nothing = record { size = omega arith }
+
+pub zero_is_near : (low : ℕ) (p : Amplitude) → p ≡ amplitude_zero → IsNear low p
+zero_is_near low p e = subst (IsNear low) (sym e) (record { coefficients = below_zero 100; least = λ n. absurd (n refl); most = omega arith })

@@ -17,6 +17,7 @@ ghost use Rattle.aq_plain.specs.Wide.{
   IsFirstWide,
 };
 
+use crate::near::are_near;
 use crate::places::{digit_of, has_controls, weight_of};
 use crate::row::{WideSum, always_fits, fitting_sum, row_sum};
 use crate::small::are_small;
@@ -76,6 +77,9 @@ fn find_wide(amps: &[Amp], qubits: u32, gate: &Gate, small: bool) -> Option<Wide
         return None;
     }
     if fits_anywhere(gate) {
+        return None;
+    }
+    if are_near(amps) {
         return None;
     }
     for index in 0..amps.len() {

@@ -4,6 +4,7 @@
 
 mod apply;
 mod listing;
+mod near;
 mod numerator;
 mod parts;
 mod places;
