@@ -64,8 +64,8 @@ fn is_known_small(amps: &[Amp], gate: &Gate) -> bool
     are_small(amps)
 }
 
-/// The operands of the first sum or quotient that doesn't fit, if there is one. `small`: all amplitudes are, so there is
-/// none.
+/// The operands of the first sum or quotient that doesn't fit, if there is one. `small`: all amplitudes are, so
+/// there is none.
 fn find_wide(amps: &[Amp], qubits: u32, gate: &Gate, small: bool) -> Option<WideSum>
     requires valid { IsValidGate qubits gate.now }
     requires sizes { IsStateVector qubits amps.now }
