@@ -6,3 +6,4 @@ pub mod PartLaws
 pub mod TakeLaws
 pub mod WholeLaws
 pub mod PlayLaws
+pub mod SmallLaws

@@ -1,18 +1,22 @@
 -- A gate played in place, pair by pair.
-use Rattle.std.proofs.Common.{◌≡◌, ◌≢◌, ℕ, ◌+◌, ◌-◌, ◌*◌, ◌^◌, ◌<◌, ◌≤◌, true, false, cond, List, Result, length, get_or, set, refl, sym, ap, ◌∙◌, subst, ⊎_elim, arith}
+use Rattle.std.proofs.Common.{◌≡◌, ◌≢◌, ℕ, ◌+◌, ◌-◌, ◌*◌, ◌^◌, ◌<◌, ◌≤◌, Bool, true, false, cond, List, Result, length, get_or, set, refl, sym, ap, ◌∙◌, subst, ⊎_elim, arith}
 use Rattle.std.proofs.lemmas.Bool.{cases_eq}
-use Rattle.std.proofs.lemmas.List.{get_or-set_same, get_or-set_other, length-set, ext_get_or, get_or_read}
+use Rattle.std.specs.List.{All}
+use Rattle.std.specs.Bool.{OnTrue}
+use Rattle.std.proofs.lemmas.List.{set-get_or, get_or-set_same, get_or-set_other, length-set, ext_get_or, get_or_read}
 use Rattle.aq_ring.specs.Fractions.{Amplitude}
 use Rattle.aq_ring.specs.Amplitudes.{amplitude_zero, sum}
 use Rattle.aq_ring.proofs.AmplitudeLaws.{sum-zero, sum_comm}
 use Rattle.aq_prog.specs.Digits.{weight, digit, with_digit, amplitude_at}
-use Rattle.aq_prog.specs.Gates.{term, term_at, entry_at, is_controlled, gate_entry, apply_gate, IsValidGate, FitsGate, FitsGateAt}
+use Rattle.aq_prog.specs.Gates.{term, term_at, entry_at, is_controlled, gate_entry, apply_gate, IsValidGate, FitsGate, FitsGateAt, IsEntry}
 use Rattle.aq_prog.specs.declared.gate.Entry.{Entry}
 use Rattle.aq_prog.specs.declared.gate.Entry.TheVariants as entry
 use Rattle.aq_prog.specs.declared.gate.Gate.{Gate}
 use Rattle.aq_prog.proofs.DigitLaws.{weight-positive, digit-below, digit-with_digit, with_digit-with_digit, with_digit-own, with_digit-below, controlled-other, length-tabulate, get_or-tabulate}
 use Rattle.aq_plain.specs.Wide.{AlwaysFits, FitsRow, FitsRowOf, row_of, RowGives, row_entry, paired}
 use Rattle.aq_plain.specs.declared.row.WideSum.{WideSum}
+use Rattle.aq_plain.specs.Small.{AreNear, IsNear, IsSmallAmplitude}
+use Rattle.aq_plain.proofs.SmallLaws.{near_row_fits, small_row_fits, term_of_zero}
 
 pub RowGives-same : (rows : List (List Entry)) (d e : ℕ) (p q s t : Amplitude) (r : Result Amplitude WideSum)
     → d ≡ e → p ≡ s → q ≡ t → RowGives (entry_at rows d 0) (entry_at rows d 1) p q r → RowGives (entry_at rows e 0) (entry_at rows e 1) s t r
@@ -256,3 +260,52 @@ zero_after e f p q r z same = same ∙ sym (sum-zero (term e p)) ∙ sum_comm am
 
 pub zero_before : (e f : Entry) (p q r : Amplitude) → e ≡ entry.Zero → r ≡ term f q → r ≡ sum (term e p) (term f q)
 zero_before e f p q r z same = same ∙ sym (sum-zero (term f q)) ∙ sym (ap (λ (g : Entry). sum (term g p) (term f q)) z)
+
+-- ---- small amplitudes
+pub on_true : (b : Bool) (P Q : Type 0) → (P → Q) → OnTrue b P → OnTrue b Q
+on_true true P Q f h = f h
+on_true false P Q f h = h
+
+-- a gate fits where each of its rows does on what is true of all amplitudes
+fits_on_all : (n : ℕ) (gate : Gate) (v : List Amplitude) (P : Amplitude → Type 0) → IsValidGate n gate → length v ≡ 2 ^ n → All P v
+    → ((e f : Entry) (p q : Amplitude) → IsEntry e → IsEntry f → P p → P q → FitsRow e f p q) → FitsGate n gate v
+fits_on_all n gate v P valid size all rows = record { at = at }
+  where
+    here : (x column : ℕ) → x < length v → column < 2 → P (paired n gate v x column)
+    here x column h b = all (with_digit n gate.target column x) amplitude_zero (rw size (with_digit-below n gate.target column x valid.target b (rw size at h)))
+
+    at : (x : ℕ) → x < length v → FitsGateAt n gate v x
+    at x h =
+        let row = rows (row_entry n gate x 0) (row_entry n gate x 1) (paired n gate v x 0) (paired n gate v x 1)
+        (valid.entries (digit n gate.target x) 0) (valid.entries (digit n gate.target x) 1) (here x 0 h (omega arith)) (here x 1 h (omega arith)) in
+        record { left = λ c. row.left; right = λ c. row.right; sums = λ c. row.sums }
+
+pub fits_on_small : (n : ℕ) (gate : Gate) (v : List Amplitude) → IsValidGate n gate → length v ≡ 2 ^ n → All IsSmallAmplitude v → FitsGate n gate v
+fits_on_small n gate v valid size all = fits_on_all n gate v IsSmallAmplitude valid size all small_row_fits
+
+pub fits_on_near : (n : ℕ) (gate : Gate) (v : List Amplitude) → IsValidGate n gate → length v ≡ 2 ^ n → AreNear v → FitsGate n gate v
+fits_on_near n gate v valid size near = fits_on_all n gate v (IsNear near.low) valid size near.each (λ e f p q. near_row_fits near.low e f p q near.few)
+
+-- the pair at x, which isn't written yet
+pub small_low : (n : ℕ) (gate : Gate) (old new : List Amplitude) (x : ℕ) → All IsSmallAmplitude old → x < length old → digit n gate.target x ≡ 0 → IsPartly n gate old new x
+    → IsSmallAmplitude (amplitude_at new x)
+small_low n gate old new x all h first part = subst IsSmallAmplitude (sym (low_kept n gate old new x first part)) (all x amplitude_zero h)
+
+pub small_high : (n : ℕ) (gate : Gate) (old new : List Amplitude) (x : ℕ) → All IsSmallAmplitude old → gate.target < n → length old ≡ 2 ^ n → x < length old
+    → digit n gate.target x ≡ 0 → IsPartly n gate old new x → IsSmallAmplitude (amplitude_at new (x + weight n gate.target))
+small_high n gate old new x all in_n size h first part =
+    subst IsSmallAmplitude (sym (high_kept n gate old new x first part))
+    (all (x + weight n gate.target) amplitude_zero (second_below n gate.target x (length old) in_n size h first))
+
+-- ---- two zeros
+row_of_zeros : (gate : Gate) (row : ℕ) (p q : Amplitude) → p ≡ amplitude_zero → q ≡ amplitude_zero → row_of gate row p q ≡ amplitude_zero
+row_of_zeros gate row p q a b =
+    (λ i. sum (term_of_zero (entry_at gate.matrix.rows row 0) p a i) (term_of_zero (entry_at gate.matrix.rows row 1) q b i)) ∙ sum-zero amplitude_zero
+
+-- stay as they are
+pub zeros_stay : (gate : Gate) (v : List Amplitude) (x w : ℕ) → amplitude_at v x ≡ amplitude_zero → amplitude_at v (x + w) ≡ amplitude_zero → v ≡ written w gate v x
+zeros_stay gate v x w a b =
+    let first : set v x (row_of gate 0 (amplitude_at v x) (amplitude_at v (x + w))) ≡ v =
+    ap (set v x) (row_of_zeros gate 0 _ _ a b ∙ sym a) ∙ set-get_or v x amplitude_zero in
+    sym (ap (λ u. set u (x + w) (row_of gate 1 (amplitude_at v x) (amplitude_at v (x + w)))) first
+    ∙ ap (set v (x + w)) (row_of_zeros gate 1 _ _ a b ∙ sym b) ∙ set-get_or v (x + w) amplitude_zero)

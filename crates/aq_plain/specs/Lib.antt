@@ -1,4 +1,5 @@
 pub mod Vectors
 pub mod Wide
+pub mod Small
 pub mod Listing
 pub mod Replaying

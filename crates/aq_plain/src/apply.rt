@@ -1,12 +1,26 @@
 //! A gate on a vector, in place.
 ghost use Rattle.std.specs.Prelude.{◌≡◌, ◌≤◌, ◌<◌, ◌^◌, ◌+◌, length, OnOk, OnErr, IfErr, MatchOption, slice_set};
+ghost use Rattle.std.specs.Bool.{OnTrue};
+ghost use Rattle.std.specs.List.{All};
 ghost use Rattle.aq_prog.specs.Digits.{amplitude_at, weight};
-ghost use Rattle.aq_prog.specs.Gates.{apply_gate, FitsGate, FitsGateAt, AreEntries, IsValidGate};
+ghost use Rattle.aq_prog.specs.Gates.{apply_gate, entry_at, FitsGate, FitsGateAt, AreEntries, IsValidGate};
+ghost use Rattle.aq_plain.specs.Small.{IsSmallAmplitude};
 ghost use Rattle.aq_plain.specs.Vectors.{IsStateVector};
-ghost use Rattle.aq_plain.specs.Wide.{RowGives, row_entry, paired, FitsRowOf, row_of, IsWideAt, IsFirstWide};
+ghost use Rattle.aq_plain.specs.Wide.{
+  AlwaysFits,
+  RowGives,
+  row_entry,
+  paired,
+  FitsRowOf,
+  row_of,
+  IsWideAt,
+  IsFirstWide,
+};
 
+use crate::near::are_near;
 use crate::places::{digit_of, has_controls, weight_of};
 use crate::row::{WideSum, always_fits, fitting_sum, row_sum};
+use crate::small::are_small;
 use crate::vector::Vector;
 use aq_prog::Gate;
 use aq_ring::Amp;
@@ -22,23 +36,50 @@ pub fn apply_plain(vector: &mut Vector, gate: &Gate) -> Result<(), WideSum>
     ensures unchanged { OnErr result (vector.new ≡ vector.old) }
 {
     let qubits = vector.qubits();
-    if let Some(wide) = find_wide(vector.amps(), qubits, gate) {
+    let small = is_known_small(vector.amps(), gate);
+    if let Some(wide) = find_wide(vector.amps(), qubits, gate, small) {
         return Err(wide);
     }
-    vector.play(gate);
+    vector.play(gate, small);
     Ok(())
 }
 
-/// The operands of the first sum or quotient that doesn't fit, if there is one.
-fn find_wide(amps: &[Amp], qubits: u32, gate: &Gate) -> Option<WideSum>
+/// Whether it is plain from the gate alone that it fits.
+fn fits_anywhere(gate: &Gate) -> bool
+    ensures top { OnTrue result (AlwaysFits (entry_at gate.now.matrix.rows 0 0) (entry_at gate.now.matrix.rows 0 1)) }
+    ensures bottom { OnTrue result (AlwaysFits (entry_at gate.now.matrix.rows 1 0)
+        (entry_at gate.now.matrix.rows 1 1)) }
+{
+    always_fits(gate.matrix.rows[0][0], gate.matrix.rows[0][1])
+        && always_fits(gate.matrix.rows[1][0], gate.matrix.rows[1][1])
+}
+
+/// Whether all amplitudes are small. Not asked where the gate fits on any.
+fn is_known_small(amps: &[Amp], gate: &Gate) -> bool
+    ensures { OnTrue result (All IsSmallAmplitude amps.now) }
+{
+    if fits_anywhere(gate) {
+        return false;
+    }
+    are_small(amps)
+}
+
+/// The operands of the first sum or quotient that doesn't fit, if there is one. `small`: all amplitudes are, so
+/// there is none.
+fn find_wide(amps: &[Amp], qubits: u32, gate: &Gate, small: bool) -> Option<WideSum>
     requires valid { IsValidGate qubits gate.now }
     requires sizes { IsStateVector qubits amps.now }
+    requires small { OnTrue small (All IsSmallAmplitude amps.now) }
     ensures { MatchOption result (FitsGate qubits gate.now amps.now)
         (λ w. IsFirstWide qubits gate.now amps.now w.left w.right) }
 {
-    if always_fits(gate.matrix.rows[0][0], gate.matrix.rows[0][1])
-        && always_fits(gate.matrix.rows[1][0], gate.matrix.rows[1][1])
-    {
+    if small {
+        return None;
+    }
+    if fits_anywhere(gate) {
+        return None;
+    }
+    if are_near(amps) {
         return None;
     }
     for index in 0..amps.len() {
@@ -81,34 +122,59 @@ fn new_entry(amps: &[Amp], qubits: u32, gate: &Gate, index: usize) -> Result<Amp
     row_sum(row[0], row[1], amps[low], amps[low + weight])
 }
 
-/// Writes the new amplitudes pair by pair, where all of them fit.
-pub(crate) fn write_gate(amps: &mut [Amp], qubits: u32, gate: &Gate)
+/// Writes the new amplitudes pair by pair, where all of them fit. `small`: all of the old ones are.
+pub(crate) fn write_gate(amps: &mut [Amp], qubits: u32, gate: &Gate, small: bool)
     requires valid { IsValidGate qubits gate.now }
     requires sizes { IsStateVector qubits amps.old }
     requires fits { FitsGate qubits gate.now amps.old }
+    requires small { OnTrue small (All IsSmallAmplitude amps.old) }
     ensures { amps.new ≡ apply_gate qubits gate.now amps.old }
 {
     let weight = weight_of(qubits, gate.target);
     let controls = gate.controls.as_slice();
     for index in 0..amps.len() {
         if digit_of(index, qubits, gate.target) == 0 && has_controls(index, qubits, controls) {
-            write_pair(amps, gate, index, weight);
+            write_pair(amps, gate, index, weight, small);
         }
     }
 }
 
-/// Writes the two new amplitudes at the index and so far behind it.
-fn write_pair(amps: &mut [Amp], gate: &Gate, low: usize, weight: usize)
+/// Writes the two new amplitudes at the index and so far behind it. Two zeros stay. `small`: the old ones are.
+#[inline]
+fn write_pair(amps: &mut [Amp], gate: &Gate, low: usize, weight: usize, small: bool)
     requires entries { AreEntries gate.now.matrix.rows }
     requires within { low + weight < length amps.old }
     requires apart { 0 < weight }
     requires top { FitsRowOf gate.now 0 (amplitude_at amps.old low) (amplitude_at amps.old (low + weight)) }
     requires bottom { FitsRowOf gate.now 1 (amplitude_at amps.old low) (amplitude_at amps.old (low + weight)) }
+    requires small_low { OnTrue small (IsSmallAmplitude (amplitude_at amps.old low)) }
+    requires small_high { OnTrue small (IsSmallAmplitude (amplitude_at amps.old (low + weight))) }
+    ensures { amps.new ≡ slice_set (slice_set amps.old low (row_of gate.now 0 (amplitude_at amps.old low)
+        (amplitude_at amps.old (low + weight))))
+        (low + weight) (row_of gate.now 1 (amplitude_at amps.old low) (amplitude_at amps.old (low + weight))) }
+{
+    if amps[low].is_zero() && amps[low + weight].is_zero() {
+        return;
+    }
+    write_rows(amps, gate, low, weight, small);
+}
+
+/// Writes both rows of the two amplitudes.
+#[inline(never)]
+fn write_rows(amps: &mut [Amp], gate: &Gate, low: usize, weight: usize, small: bool)
+    requires entries { AreEntries gate.now.matrix.rows }
+    requires within { low + weight < length amps.old }
+    requires apart { 0 < weight }
+    requires top { FitsRowOf gate.now 0 (amplitude_at amps.old low) (amplitude_at amps.old (low + weight)) }
+    requires bottom { FitsRowOf gate.now 1 (amplitude_at amps.old low) (amplitude_at amps.old (low + weight)) }
+    requires small_low { OnTrue small (IsSmallAmplitude (amplitude_at amps.old low)) }
+    requires small_high { OnTrue small (IsSmallAmplitude (amplitude_at amps.old (low + weight))) }
     ensures { amps.new ≡ slice_set (slice_set amps.old low (row_of gate.now 0 (amplitude_at amps.old low)
         (amplitude_at amps.old (low + weight))))
         (low + weight) (row_of gate.now 1 (amplitude_at amps.old low) (amplitude_at amps.old (low + weight))) }
 {
     let (left, right) = (amps[low], amps[low + weight]);
-    amps[low] = fitting_sum(gate.matrix.rows[0][0], gate.matrix.rows[0][1], left, right);
-    amps[low + weight] = fitting_sum(gate.matrix.rows[1][0], gate.matrix.rows[1][1], left, right);
+    let rows = gate.matrix.rows;
+    amps[low] = fitting_sum(rows[0][0], rows[0][1], left, right, small);
+    amps[low + weight] = fitting_sum(rows[1][0], rows[1][1], left, right, small);
 }

@@ -4,6 +4,8 @@
 
 mod apply;
 mod listing;
+mod near;
+mod numerator;
 mod parts;
 mod places;
 mod player;
@@ -12,6 +14,7 @@ mod replay_stop;
 mod replaying;
 mod row;
 mod rows;
+mod small;
 mod stop;
 mod tensors;
 #[cfg(test)]

@@ -74,7 +74,7 @@ fn flip(alloc: Global, vector: &mut Vector, qubit: u32)
 {
     let gate = Gate::new(Items::new(alloc), qubit, FLIP);
     always_fits();
-    vector.play(&gate);
+    vector.play(&gate, false);
 }
 
 /// Takes the next outcome of a measurement of the qubit. Gives it, and those that are left.

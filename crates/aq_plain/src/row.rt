@@ -3,8 +3,10 @@ ghost use Rattle.std.specs.Prelude.{◌≡◌, IfSome, MatchResult};
 ghost use Rattle.std.specs.Bool.{OnTrue};
 ghost use Rattle.aq_ring.specs.Amplitudes.{sum};
 ghost use Rattle.aq_prog.specs.Gates.{divided, term, FitsDivided, FitsTerm, IsEntry};
+ghost use Rattle.aq_plain.specs.Small.{IsSmallAmplitude};
 ghost use Rattle.aq_plain.specs.Wide.{IsWideDivision, IsWideTerm, AlwaysFits, FitsRow, RowGives};
 
+use crate::small::small_sum;
 use aq_prog::Entry;
 use aq_ring::Amp;
 
@@ -81,12 +83,15 @@ pub(crate) fn always_fits(first: Entry, second: Entry) -> bool
     }
 }
 
-/// The sum of the two terms, where it fits.
+/// The sum of the two terms, where it fits. `small`: both amplitudes are.
+#[inline(always)]
 #[tactic(auto, using(crate::proofs::PairLaws::zero_after, crate::proofs::PairLaws::zero_before))]
-pub(crate) fn fitting_sum(first: Entry, second: Entry, left: Amp, right: Amp) -> Amp
+pub(crate) fn fitting_sum(first: Entry, second: Entry, left: Amp, right: Amp, small: bool) -> Amp
     requires first { IsEntry first }
     requires second { IsEntry second }
     requires fits { FitsRow first second left right }
+    requires small_left { OnTrue small (IsSmallAmplitude left) }
+    requires small_right { OnTrue small (IsSmallAmplitude right) }
     ensures { result ≡ sum (term first left) (term second right) }
 {
     if second == Entry::Zero
@@ -99,6 +104,19 @@ pub(crate) fn fitting_sum(first: Entry, second: Entry, left: Amp, right: Amp) ->
     {
         return amp;
     }
+    if small {
+        return small_sum(first, second, left, right);
+    }
+    any_sum(first, second, left, right)
+}
+
+/// The sum of the two terms, where it fits.
+fn any_sum(first: Entry, second: Entry, left: Amp, right: Amp) -> Amp
+    requires first { IsEntry first }
+    requires second { IsEntry second }
+    requires fits { FitsRow first second left right }
+    ensures { result ≡ sum (term first left) (term second right) }
+{
     match row_sum(first, second, left, right) {
         Ok(amp) => amp,
         Err(_) => unreachable!(),

@@ -5,6 +5,7 @@ ghost use Rattle.std.specs.Prelude.{
   ◌<◌,
   ◌≤◌,
   ◌^◌,
+  All,
   IfOk,
   IsTrue,
   length,
@@ -13,9 +14,11 @@ ghost use Rattle.std.specs.Prelude.{
   slice_set,
   Some,
 };
+ghost use Rattle.std.specs.Bool.{OnTrue};
 ghost use Rattle.aq_ring.specs.Amplitudes.{amplitude_zero};
 ghost use Rattle.aq_ring.specs.Vectors.{IsZeroVector};
 ghost use Rattle.aq_prog.specs.Gates.{apply_gate, project, FitsGate, IsValidGate};
+ghost use Rattle.aq_plain.specs.Small.{IsSmallAmplitude};
 ghost use Rattle.aq_plain.specs.Vectors.{IsStateVector};
 
 use crate::apply::write_gate;
@@ -89,14 +92,15 @@ impl Vector {
         self.amps.as_slice()
     }
 
-    /// Plays a gate all of whose sums and quotients fit.
-    pub(crate) fn play(&mut self, gate: &Gate)
+    /// Plays a gate all of whose sums and quotients fit. `small`: all amplitudes are.
+    pub(crate) fn play(&mut self, gate: &Gate, small: bool)
         requires valid { IsValidGate self.old.qubits gate.now }
         requires fits { FitsGate self.old.qubits gate.now self.old.amps }
+        requires small { OnTrue small (All IsSmallAmplitude self.old.amps) }
         ensures qubits { self.new.qubits ≡ self.old.qubits }
         ensures amps { self.new.amps ≡ apply_gate self.old.qubits gate.now self.old.amps }
     {
-        write_gate(self.amps.as_mut_slice(), self.qubits, gate);
+        write_gate(self.amps.as_mut_slice(), self.qubits, gate, small);
     }
 
     /// Makes the amplitudes zero of the kets in which the qubit has the other digit.

@@ -1,5 +1,5 @@
 use Rattle.std.proofs.Common.{◌∙◌, sym, arith}
-use Rattle.aq_plain.proofs.PairLaws.{second_below, top_fits, bottom_fits, IsPartly-second, IsPartly-stays, IsPartly-step, IsPartly-all}
+use Rattle.aq_plain.proofs.PairLaws.{on_true, small_high, second_below, top_fits, bottom_fits, IsPartly-second, IsPartly-stays, IsPartly-step, IsPartly-all}
 use Rattle.aq_plain.proofs.apply.write_gate.Goals as goal
 use Rattle.aq_plain.proofs.apply.write_gate.Goals.{then-digit_of-eq0+then-has_controls, else-digit_of-eq0, else-digit_of-eq0-via-then-digit_of-eq0+else-has_controls, else-digit_of-eq0-via-else-digit_of-eq0}
 
@@ -22,6 +22,12 @@ write_pair-requires-clause-bottom c =
     let control = sym (rw c.as_slice-controls.ensures at c.has_controls.ensures) ∙ c.if-has_controls.true in
     let size = c.loop-index.invariant.size in
     rw c.weight_of-weight.ensures (bottom_fits c.args.qubits c.args.gate.now c.args.amps.now c.loop-index.amps c.loop-index.index c.requires.valid c.requires.sizes.size (omega arith) c.requires.fits first control c.loop-index.invariant)
+
+pub write_pair-requires-clause-small_high : goal.write_pair-requires-clause-small_high
+write_pair-requires-clause-small_high c =
+    let first = sym c.digit_of.ensures ∙ c.if-digit_of-eq0.true in
+    let size = c.loop-index.invariant.size in
+    rw c.weight_of-weight.ensures (on_true c.args.small _ _ (λ all. small_high c.args.qubits c.args.gate.now c.args.amps.now c.loop-index.amps c.loop-index.index all c.requires.valid.target c.requires.sizes.size (omega arith) first c.loop-index.invariant) c.requires.small)
 
 pub loop-index-preserved : goal.loop-index-preserved
 loop-index-preserved c =
