@@ -147,6 +147,23 @@ def removed_source(copy):
     return copy.run(), (0, "one\n", True)
 
 
+def other_crates(copy):
+    """What is built again after a change of a crate that the program stands on by another, of its lines, and of the rest."""
+    copy.write("crates.txt", "low:\nmiddle: low\nautoq: middle\nother: low\n")
+    for name in ("low", "other"):
+        os.makedirs(os.path.join(copy.top, "crates", name, "specs"))
+        copy.write("crates/%s/specs/One.antt" % name, "one\n")
+    built = [copy.run()[2]]
+    copy.write("crates/other/specs/One.antt", "two\n")
+    copy.write("crates.txt", "low:\nmiddle: low\nautoq: middle\nother: low middle\nlast: other\n")
+    built.append(copy.run()[2])
+    copy.write("crates/low/specs/One.antt", "two\n")
+    built.append(copy.run()[2])
+    copy.write("crates.txt", "low:\nmiddle: low\nautoq: low middle\nother: low middle\nlast: other\n")
+    built.append(copy.run()[2])
+    return built, [True, False, True, True]
+
+
 def failed_build(copy):
     copy.run()
     copy.say("wrong")
@@ -401,6 +418,7 @@ CASES = [
     changed_source,
     older_source,
     removed_source,
+    other_crates,
     failed_build,
     program_after_failed_build,
     folder_of_program_taken,
