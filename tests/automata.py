@@ -1,0 +1,104 @@
+"""What automata give is what lists of vectors give, on drawn texts: the vectors of sets, gates on them, and the worlds of obligations
+with the runs that end in them. The program that compares them is made of the crates in a scratch folder, and only run there:
+it has no proof."""
+
+import os
+import shutil
+import subprocess
+import tempfile
+
+from drawn import drawn_dynamic, drawn_looped, drawn_pair
+
+TOP = os.path.dirname(os.path.dirname(os.path.abspath(__file__)))
+DRIVER = os.path.join(TOP, "tests", "automata_driver.txt")
+SECONDS = 1800
+DYNAMIC = 300
+LOOPED = 100
+PAIRS = 200
+# the crates that the driver names
+CRATES = (
+    "aq_ring aq_prog aq_plain aq_elab aq_sets aq_set_read aq_obligations aq_owing aq_store aq_gate_ops aq_symbolic aq_world"
+    " aq_worlds sqlite_items"
+).split()
+TELEPORTED = (
+    b'OPENQASM 3.0;\ninclude "stdgates.inc";\nbit[2] c;\nqubit[3] q;\nh q[1];\ncx q[1], q[2];\ncx q[0], q[1];\nh q[0];\n'
+    b"c[0] = measure q[0];\nc[1] = measure q[1];\nif (c[1]) {\n  x q[2];\n}\nif (c[0]) {\n  z q[2];\n}\n",
+    b"set psi = [|0> + w|1>]; claim pre = psi * [|00>]; claim post = psi * all 2;",
+)
+KINDS = ("words of sets", "wide sets", "gates", "wide gates", "worlds", "wide obligations", "runs")
+# at the least
+WANTED = (0, 0, 1500, 40, 700, 20, 1500)
+
+
+def below(lines, names):
+    """The crates that these stand on, and they."""
+    found, left = set(), list(names)
+    while left:
+        name = left.pop()
+        if name in lines and name not in found:
+            found.add(name)
+            left += lines[name]
+    return found
+
+
+def make_crates(folder):
+    """The crates that the driver stands on, and the driver."""
+    with open(os.path.join(TOP, "crates.txt")) as file:
+        text = [line.split("#")[0].strip() for line in file]
+    lines = {line.split(":")[0]: line.split(":")[1].split() for line in text if line}
+    needed = below(lines, CRATES)
+    for name in needed:
+        for part in ("src", "specs", "proofs"):
+            source = os.path.join(TOP, "crates", name, part)
+            if os.path.isdir(source):
+                shutil.copytree(source, os.path.join(folder, "crates", name, part))
+    driver = os.path.join(folder, "crates", "driver", "src")
+    os.makedirs(driver)
+    shutil.copy(DRIVER, os.path.join(driver, "main.rt"))
+    shutil.copy(os.path.join(TOP, "HANDLES"), folder)
+    with open(os.path.join(folder, "crates.txt"), "w") as file:
+        for name in lines:
+            if name in needed:
+                file.write("%s: %s\n" % (name, " ".join(lines[name])))
+        above = sorted(needed) + [name for name in CRATES if name not in needed]
+        file.write("driver: %s\n" % " ".join(above))
+    return os.path.join(folder, "crates", "driver")
+
+
+def texts():
+    """A teleportation, and drawn texts."""
+    dynamic = [drawn_dynamic(seed)[:2] for seed in range(DYNAMIC)]
+    return [TELEPORTED] + dynamic + [drawn_looped(seed) for seed in range(LOOPED)] + [drawn_pair(seed) for seed in range(PAIRS)]
+
+
+def compared():
+    """For each case what is told of it, or the end of what was said in place of it."""
+    with tempfile.TemporaryDirectory() as folder:
+        crate = make_crates(folder)
+        cases = os.path.join(folder, "cases")
+        with open(cases, "wb") as file:
+            for program, sets in texts():
+                file.write(program + b"\x01" + sets + b"\x02")
+        done = subprocess.run(
+            ["rt", "try", "--", cases], cwd=crate, stdin=subprocess.DEVNULL, capture_output=True, timeout=SECONDS
+        )
+    lines = [line.split() for line in done.stdout.decode().splitlines()]
+    lines = [line for line in lines if line and line[0] in ("same", "different", "unread", "unfinished")]
+    return lines, (done.stdout + done.stderr).decode()[-600:]
+
+
+def found():
+    """What is wrong with the cases: pairs of a name and what is wrong."""
+    lines, said = compared()
+    cases = 1 + DYNAMIC + LOOPED + PAIRS
+    if len(lines) != cases:
+        return [("the cases of automata", ["%d of %d were compared: %s" % (len(lines), cases, said)])]
+    answers = []
+    for number, line in enumerate(lines):
+        answers.append(("automata, case %d" % number, [] if line[0] in ("same", "unread") else [line[0]]))
+    # one world for each pair of outcomes, each with one state
+    answers.append(("the worlds of a teleportation", [] if (lines[0][5], lines[0][7]) == ("4", "4") else [" ".join(lines[0])]))
+    for place, (kind, least) in enumerate(zip(KINDS, WANTED)):
+        count = sum(int(line[place + 1]) for line in lines)
+        answers.append(("%s that were compared" % kind, [] if count >= least else ["only %d" % count]))
+    return answers
