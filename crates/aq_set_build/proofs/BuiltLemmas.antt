@@ -1,5 +1,5 @@
 -- Memos of automata of expressions.
-use Rattle.std.proofs.Common.{◌≡◌, ℕ, Bool, true, false, cond, eqb, eqb-true, List, Option, None, Some, nat_eq, refl, sym, ap, subst, ◌∙◌}
+use Rattle.std.proofs.Common.{◌≡◌, ℕ, Bool, true, false, cond, eqb, eqb-true, List, Option, None, Some, refl, sym, ap, subst, ◌∙◌}
 use Rattle.aq_ring.specs.Fractions.{Amplitude}
 use Rattle.aq_store.specs.Count.{Count}
 use Rattle.aq_store.specs.declared.lsta.Lsta.{Lsta}

@@ -1,5 +1,5 @@
 -- Automata of the parts of a union, and their union.
-use Rattle.std.proofs.Common.{◌≡◌, ℕ, inl, inr, zero, suc, ◌+◌, ◌-◌, ◌<◌, ◌≤◌, ◌⊎◌, cond, ltb, List, [], ◌∷◌, ◌++◌, length, map, take, min, max, slice_get, sum_by, Some, All, refl, sym, ap, ap₂, subst, ◌∙◌, arith}
+use Rattle.std.proofs.Common.{◌≡◌, ℕ, inl, inr, zero, suc, ◌+◌, ◌-◌, ◌<◌, ◌≤◌, ◌⊎◌, cond, ltb, List, [], ◌∷◌, ◌++◌, length, map, take, min, max, slice_get, Some, All, refl, sym, ap, ap₂, subst, ◌∙◌, arith}
 use Rattle.std.specs.List.{fold}
 use Rattle.std.proofs.lemmas.Bool.{cases_lt}
 use Rattle.std.proofs.lemmas.List.{append-nil}
@@ -8,22 +8,22 @@ use Rattle.std.proofs.lemmas.List.Sums.{sum_by-cons}
 use Rattle.std.proofs.lemmas.Option.{slice_get_within}
 use Rattle.aq_ring.specs.Fractions.{Amplitude}
 use Rattle.aq_store.specs.declared.lsta.Lsta.{Lsta}
-use Rattle.aq_store.specs.Nodes.{Extends, FitsStore, vector_of}
+use Rattle.aq_store.specs.Nodes.{Extends, vector_of}
 use Rattle.aq_store.specs.Words as store
 use Rattle.aq_store.specs.Words.{IsWord}
 use Rattle.aq_store.proofs.RunLemmas.{slice_get-append_left, slice_get-append_right}
 use Rattle.aq_measure_ops.specs.Joining as joining
 use Rattle.aq_measure_ops.specs.Joining.{shape_of, first_choices, choices_before, HasPart, AreUnited, HaveLevels}
-use Rattle.aq_sets.specs.Vectors.{Listed, nothing_listed, united, lists, vectors_of, products_of}
-use Rattle.aq_sets.specs.Sizes.{Size, size_of, larger, united_shape, Placing, place, shortened, lower, first_number}
+use Rattle.aq_sets.specs.Vectors.{Listed, lists, vectors_of, products_of}
+use Rattle.aq_sets.specs.Sizes.{size_of, larger, united_shape, place, shortened, lower, first_number}
 use Rattle.aq_sets.specs.declared.sets.Expr.{Expr}
 use Rattle.aq_sets.specs.ValidExprs.{AreValidExprs}
 use Rattle.aq_sets.proofs.PlaceLaws.{length-word, ArePositive, shortened-word, has_positive}
 use Rattle.aq_sets.proofs.SizeLaws.{has_shape, has_count}
 use Rattle.aq_set_build.specs.Products.{AllFit, IsWideAmong}
 use Rattle.aq_set_build.specs.Tensors.{Table}
-use Rattle.aq_set_build.specs.Listing.{Lists, IsBuilt, IsMade}
-use Rattle.aq_set_build.specs.Unions.{listed_all, shape_all, place_all, AreAlike, IsBelow, IsOpening, AreMade}
+use Rattle.aq_set_build.specs.Listing.{IsMade}
+use Rattle.aq_set_build.specs.Unions.{listed_all, shape_all, place_all, AreAlike, IsBelow, AreMade}
 use Rattle.aq_set_build.proofs.ProductLemmas.{Fits}
 use Rattle.aq_set_build.proofs.ListLemmas.{contains_at}
 use Rattle.aq_set_build.proofs.BuiltLemmas.{made-Extends}

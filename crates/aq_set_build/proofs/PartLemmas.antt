@@ -1,12 +1,11 @@
 -- Unions that are taken apart stay what they are.
-use Rattle.std.proofs.Common.{◌≡◌, ℕ, zero, suc, ◌+◌, ◌-◌, ◌*◌, ◌^◌, ◌<◌, ◌≤◌, Bool, true, false, cond, ltb, eqb, eqb-true, min, max, List, [], ◌∷◌, ◌++◌, length, reverse, slice_get, Some, All, refl, sym, ap, ap₂, subst, ◌∙◌, arith}
-use Rattle.std.specs.List.{repeat}
+use Rattle.std.proofs.Common.{◌≡◌, ℕ, ◌+◌, ◌-◌, ◌*◌, ◌^◌, ◌<◌, ◌≤◌, Bool, true, false, cond, ltb, eqb, eqb-true, min, max, List, [], ◌∷◌, ◌++◌, length, reverse, slice_get, Some, All, refl, sym, ap, ap₂, subst, ◌∙◌, arith}
 use Rattle.std.proofs.Math.Nat.{pow-suc, pow-zero, one-mul}
-use Rattle.std.proofs.lemmas.Bool.{ltb-true, ltb-false, eqb-false}
+use Rattle.std.proofs.lemmas.Bool.{ltb-true, ltb-false}
 use Rattle.std.proofs.lemmas.List.{append_assoc, append-nil, reverse-append}
 use Rattle.std.proofs.lemmas.List.Elements.{All-nil, All-cons, All-append, All-pop}
 use Rattle.std.proofs.lemmas.Option.{slice_get_within}
-use Rattle.aq_sets.specs.Vectors.{Listed, nothing_listed, united, power, lists}
+use Rattle.aq_sets.specs.Vectors.{Listed, united, lists}
 use Rattle.aq_sets.specs.Sizes.{Size, size_of, larger, united_shape, Placing, place, shortened, lower, first_number, union_place}
 use Rattle.aq_sets.specs.declared.sets.Expr.{Expr}
 use Rattle.aq_sets.specs.declared.sets.Expr.TheVariants as expr

@@ -1,6 +1,5 @@
 -- Unions of many expressions, one after the other, and unions that are taken apart.
 use Rattle.std.specs.Prelude.{◌≡◌, ℕ, ◌+◌, ◌-◌, ◌<◌, ◌==◌, List, [], ◌∷◌, ◌++◌, All, nat_lt, reverse, if◌then◌else◌}
-
 use Rattle.aq_store.specs.declared.lsta.Lsta.{Lsta}
 use Rattle.aq_sets.specs.Vectors.{Listed, nothing_listed, united, lists}
 use Rattle.aq_sets.specs.Sizes.{size_of, united_shape, first_number, lower, shortened, Placing, place}

@@ -1,7 +1,6 @@
-use Rattle.std.proofs.Common.{◌≡◌, ℕ, ◌+◌, ◌-◌, ◌*◌, ◌^◌, ◌<◌, ◌≤◌, ◌++◌, List, [], ◌∷◌, length, map, take, get_or, IfSome, slice_get, Some, All, refl, sym, ap, ap₂, subst, ◌∙◌, arith, rules}
+use Rattle.std.proofs.Common.{◌≡◌, ◌+◌, ◌-◌, ◌*◌, ◌^◌, ◌<◌, ◌++◌, [], ◌∷◌, length, map, take, get_or, IfSome, Some, refl, sym, ap, ap₂, subst, ◌∙◌, arith, rules}
 use Rattle.std.specs.List.{repeat}
-use Rattle.aq_ring.specs.Fractions.{Amplitude}
-use Rattle.aq_store.proofs.TableLemmas.{Extends-trans, HasShape-Extends}
+use Rattle.aq_store.proofs.TableLemmas.{HasShape-Extends}
 use Rattle.aq_store.proofs.StopLemmas.{passed_on}
 use Rattle.aq_store.specs.Words as store
 use Rattle.aq_store.specs.declared.lsta.Lsta.{Lsta}
@@ -17,20 +16,19 @@ use Rattle.aq_sets.specs.declared.sets.Expr.TheVariants as expr
 use Rattle.aq_sets.proofs.ToldLaws.{expr_at}
 use Rattle.aq_sets.proofs.ExprLaws.{some_times}
 use Rattle.aq_set_build.specs.Budgets.{weight, build_budget, parts_budget}
-use Rattle.aq_set_build.specs.Built.{built_at, IsCopy, IsBuildMemo}
+use Rattle.aq_set_build.specs.Built.{built_at, IsCopy}
 use Rattle.aq_set_build.specs.Powers.{IsPowerCause}
 use Rattle.aq_set_build.specs.Products.{IsWideAmong}
 use Rattle.aq_set_build.specs.Tensors.{IsTensorCause}
 use Rattle.aq_set_build.specs.Unions.{AreMade, AreAlike, IsOpening, nodes_all}
 use Rattle.aq_set_build.proofs.GrowthLemmas.{grows_none, grows_then, grows_within, grows_steps, stops_then, stops_within, stops_gives_up}
-use Rattle.aq_set_build.proofs.ExprLemmas.{made_kets, made_all, made_tensor, made_power_at, wide_left, wide_right, wide_tensor, wide_base_at, wide_power, kets_valid, all_valid}
-use Rattle.aq_set_build.proofs.CoverLemmas.{valid_exprs, covered, tensor_within, power_within}
-use Rattle.aq_set_build.proofs.BoundLemmas.{kets_budget, all_budget, tensor_budget, power_budget, union_budget, opening_budget, parts_step, parts_front, get_or_any}
-use Rattle.aq_set_build.proofs.BuiltLemmas.{stops_memory, made-Extends, made_copy, build_memo-Extends, build_memo-put}
+use Rattle.aq_set_build.proofs.ExprLemmas.{made_tensor, made_power_at, wide_left, wide_right, wide_tensor, wide_base_at, wide_power}
+use Rattle.aq_set_build.proofs.CoverLemmas.{covered, tensor_within, power_within}
+use Rattle.aq_set_build.proofs.BoundLemmas.{tensor_budget, power_budget, union_budget, opening_budget, parts_step, parts_front, get_or_any}
+use Rattle.aq_set_build.proofs.BuiltLemmas.{made-Extends, made_copy, build_memo-Extends, build_memo-put}
 use Rattle.aq_set_build.proofs.MadeLemmas.{all_made-none, all_made-push, all_made-Extends, all_made_fit, all_made_levels, all_made-length, below_level, parts_shape, parts_some, alike_shape, made_union, wide_part, within_of}
 use Rattle.aq_set_build.proofs.PartLemmas.{opening_union, fewer_union, opening_power, fewer_power}
 use Rattle.aq_set_build.proofs.building.+build.Goals as goal
-
 
 pub build_at-returns-in-Some-clause-made : goal.build_at-returns-in-Some-clause-made
 build_at-returns-in-Some-clause-made t c =

@@ -1,4 +1,4 @@
-use Rattle.std.proofs.Common.{◌≡◌, ◌+◌, ◌*◌, ◌<◌, ◌≤◌, length, arith}
+use Rattle.std.proofs.Common.{◌+◌, ◌*◌, length}
 use Rattle.aq_sets.specs.Vectors.{products_of}
 use Rattle.aq_store.proofs.StopLemmas.{passed_on}
 use Rattle.aq_set_build.specs.Budgets.{build_budget}

@@ -1,8 +1,8 @@
-use Rattle.std.proofs.Common.{◌∙◌, ◌≡◌, ◌++◌, ◌<◌, ◌≤◌, List, ℕ, [], ap, sym, subst, refl, length, arith}
+use Rattle.std.proofs.Common.{◌∙◌, ◌≡◌, ◌++◌, ◌<◌, List, ℕ, [], ap, sym, subst, refl, arith}
 use Rattle.aq_sets.proofs.ToldLaws.{expr_at}
 use Rattle.aq_store.proofs.StopLemmas.{GivesUp-within, passed_on}
-use Rattle.aq_set_build.specs.Unions.{IsOpening, nodes_all, kept, opened}
-use Rattle.aq_set_build.proofs.PartLemmas.{opening_step, nodes_step, nodes_none, last_within, none_left}
+use Rattle.aq_set_build.specs.Unions.{IsOpening, nodes_all, kept}
+use Rattle.aq_set_build.proofs.PartLemmas.{opening_step, nodes_step, nodes_none, last_within}
 use Rattle.aq_set_build.proofs.unions.parts_of.Goals as goal
 
 pub bounds-exprs-at : goal.bounds-exprs-at
