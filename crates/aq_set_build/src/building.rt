@@ -271,13 +271,13 @@ fn build_parts(
     Ok(list)
 }
 
-/// The automaton of the expression at a position of a valid set file: its shape is the expression's, and each word of it
-/// has the vector at the word's place in the expression's list. What is used twice is made once, and a union of many
+/// The automaton of the expression at a position of a valid set file: its shape is the expression's, and each word of
+/// it has the vector at the word's place in the expression's list. What is used twice is made once, and a union of many
 /// at once. Nodes of the store keep their meaning, also where the call gives up.
 ///
-/// `WideParts` has two entries of a tensor product or a power in the expression whose product doesn't fit, and `Ok` comes
-/// only where each such product fits. `Spent` comes where the steps that are left are fewer than the bound, and `Memory`
-/// where there is none.
+/// `WideParts` has two entries of a tensor product or a power in the expression whose product doesn't fit, and `Ok`
+/// comes only where each such product fits. `Spent` comes only where the steps that are left are fewer than the bound,
+/// and `Memory` where there is none.
 pub fn build(
     alloc: Global,
     store: &mut Store<Amp>,
