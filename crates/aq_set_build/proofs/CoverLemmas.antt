@@ -40,20 +40,20 @@ wide_right (x ∷ xs) [] w e h = absurd (omega arith)
 wide_right (x ∷ xs) (y ∷ ys) [] e h = absurd h
 wide_right (x ∷ xs) (y ∷ ys) (c ∷ w) e h = (let lt : c < y = h.0 in omega arith, wide_right xs ys w (omega arith) h.1)
 
-chosen : (b : Bool) (x y : ℕ) → b ≡ true → cond b x y ≡ x
+pub chosen : (b : Bool) (x y : ℕ) → b ≡ true → cond b x y ≡ x
 chosen b x y e = ap (λ t. cond t x y) e
 
-other : (b : Bool) (x y : ℕ) → b ≡ false → cond b x y ≡ y
+pub other : (b : Bool) (x y : ℕ) → b ≡ false → cond b x y ≡ y
 other b x y e = ap (λ t. cond t x y) e
 
-lt-ltb : (m n : ℕ) → m < n → ltb m n ≡ true
+pub lt-ltb : (m n : ℕ) → m < n → ltb m n ≡ true
 lt-ltb m n h = by (ltb m n) refl
   where
     by : (b : Bool) → ltb m n ≡ b → ltb m n ≡ true
     by true e = e
     by false e = absurd (let f = ltb-false m n e in omega arith)
 
-le-ltb : (m n : ℕ) → n ≤ m → ltb m n ≡ false
+pub le-ltb : (m n : ℕ) → n ≤ m → ltb m n ≡ false
 le-ltb m n h = by (ltb m n) refl
   where
     by : (b : Bool) → ltb m n ≡ b → ltb m n ≡ false

@@ -1,5 +1,5 @@
 -- Automata of expressions, kind by kind.
-use Rattle.std.proofs.Common.{◌≡◌, ℕ, zero, suc, ◌+◌, ◌-◌, ◌*◌, ◌^◌, ◌<◌, List, ◌++◌, length, take, drop, map, slice_get, Some, replicate, sym, ap, ap₂, subst, ◌∙◌, arith}
+use Rattle.std.proofs.Common.{◌≡◌, ℕ, zero, suc, ◌+◌, ◌-◌, ◌*◌, ◌^◌, ◌<◌, ◌≤◌, All, List, ◌++◌, length, take, drop, map, slice_get, Some, replicate, sym, ap, ap₂, subst, ◌∙◌, arith}
 use Rattle.std.specs.List.{repeat, range_with_len, flat_map}
 use Rattle.std.proofs.lemmas.List.{append-nil, length-append, length-replicate, take-append-drop}
 use Rattle.std.proofs.Math.Seq.{take-append_seam, drop-append_seam}
@@ -14,7 +14,7 @@ use Rattle.aq_sets.specs.declared.sets.Expr.{Expr}
 use Rattle.aq_sets.specs.declared.sets.Expr.TheVariants as expr
 use Rattle.aq_sets.specs.declared.sets.Term.{Term}
 use Rattle.aq_sets.specs.ValidExprs.{AreValidExprs}
-use Rattle.aq_sets.proofs.ExprLaws.{listed_by, size_by, lists-is, size-is}
+use Rattle.aq_sets.proofs.ExprLaws.{listed_by, size_by, lists-is, size-is, some_times}
 use Rattle.aq_sets.proofs.PlaceLaws.{place_by, place-is, word_front, word_back, length-word}
 use Rattle.aq_sets.proofs.SizeLaws.{has_shape, has_count, length-repeat, length-tensor}
 use Rattle.aq_sets.proofs.ToldLaws.{repeat_more}
@@ -274,3 +274,28 @@ module _ (exprs : List Expr) (valid : AreValidExprs exprs) where
         }) in
         let e : suc (times - suc (suc h.fewer) + suc h.fewer) ≡ times = (let lt = h.less in omega arith) in
         wide_by i (expr.Power base times) at x y (subst (λ k. IsWideAmong (power k (lists exprs base)).products x y) e (wide_more (suc h.fewer) (times - suc (suc h.fewer)) x y among))
+
+  -- ---- what a valid expression says of itself
+  pub kets_valid : (i q : ℕ) (terms : List Term) → slice_get exprs i ≡ Some (expr.Kets q terms) → (q ≤ 64) × (0 < length terms) × All (λ t. t.index < 2 ^ q) terms
+  kets_valid i q terms at =
+      let v = valid.each i (expr.Kets q terms) at in
+      let s = ap (λ (z : Size). z.qubits) (size-is exprs i (expr.Kets q terms) at v) in
+      let few = (valid.qubits i (slice_get_within exprs i (expr.Kets q terms) at)).1 in
+      (omega arith, v.0, v.1)
+
+  pub all_valid : (i q : ℕ) → slice_get exprs i ≡ Some (expr.All q) → 0 < q
+  all_valid i q at =
+      let s = ap (λ (z : Size). z.qubits) (size-is exprs i (expr.All q) at (valid.each i (expr.All q) at)) in
+      let some = (valid.qubits i (slice_get_within exprs i (expr.All q) at)).0 in
+      omega arith
+
+  -- ---- powers of so many times
+  pub wide_base_at : (i base times : ℕ) → base < length exprs → slice_get exprs i ≡ Some (expr.Power base times) → (x y : Amplitude) → IsWideAmong (products_of exprs base) x y
+      → IsWideAmong (products_of exprs i) x y
+  wide_base_at i base zero within at x y h = absurd (let some = some_times exprs valid i base zero at in omega arith)
+  wide_base_at i base (suc n) within at x y h = wide_by i (expr.Power base (suc n)) at x y (wide_base base within n x y h)
+
+  pub made_power_at : (i base times : ℕ) → (within : base < length exprs) → slice_get exprs i ≡ Some (expr.Power base times) → Covered base → (old new : Table) (b made : Lsta)
+      → IsMade exprs base old b → IsPower times old new b made → IsMade exprs i new made
+  made_power_at i base zero within at c old new b made p h = absurd (let some = some_times exprs valid i base zero at in omega arith)
+  made_power_at i base (suc n) within at c old new b made p h = made_power base within i n at c old new b made p h

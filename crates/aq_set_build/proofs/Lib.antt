@@ -11,3 +11,7 @@ pub mod PowerLemmas
 pub mod ListLemmas
 pub mod ExprLemmas
 pub mod CoverLemmas
+pub mod PartLemmas
+pub mod BuiltLemmas
+pub mod MadeLemmas
+pub mod BoundLemmas

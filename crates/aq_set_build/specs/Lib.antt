@@ -7,4 +7,6 @@ pub mod Brackets
 pub mod Bases
 pub mod Powers
 pub mod Listing
+pub mod Unions
+pub mod Built
 pub mod Laws

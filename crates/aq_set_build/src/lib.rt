@@ -3,14 +3,18 @@
 
 mod basis;
 mod bracket;
+mod building;
+mod built;
 pub mod laws;
 mod powers;
 mod scaling;
 mod tensors;
 #[cfg(test)]
 mod tests;
+mod unions;
 
 pub use basis::all;
 pub use bracket::kets;
+pub use building::build;
 pub use powers::power;
 pub use tensors::tensor;
