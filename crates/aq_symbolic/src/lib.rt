@@ -6,12 +6,16 @@
 
 mod fragment;
 mod kept;
+mod memos;
 mod nonzero;
 mod several;
 mod spread;
+#[cfg(test)]
+mod drawn;
 #[cfg(test)]
 mod tests;
 
 pub use fragment::{go, split};
 pub use kept::World;
+pub use memos::Memos;
 pub use several::{alive, measure, play_gate, reset};
