@@ -8,11 +8,10 @@ use Rattle.aq_prog.specs.declared.stmt.Stmt.{Stmt}
 use Rattle.aq_prog.specs.declared.stmt.Stmt.TheVariants as stmt
 use Rattle.aq_prog.specs.declared.stmt.Stmt.TheOpen.{Stmt-F}
 use Rattle.aq_prog.specs.declared.stmt.Stmt.TheViews.{out-Stmt, out-roll-Stmt}
-use Rattle.aq_store.specs.Nodes.{Extends}
 use Rattle.aq_store.specs.declared.node.Node.{Node}
-use Rattle.aq_gate_ops.proofs.GateLemmas.{acting_new, acting_later}
-use Rattle.aq_measure_ops.proofs.ProjectionLemmas.{projecting_new, projecting_later}
-use Rattle.aq_symbolic.specs.Memos.{AreFresh, AreLevelMemos, AreMemos, AreOutcomes, AreResets}
+use Rattle.aq_gate_ops.proofs.GateLemmas.{acting_new}
+use Rattle.aq_measure_ops.proofs.ProjectionLemmas.{projecting_new}
+use Rattle.aq_symbolic.specs.Memos.{AreFresh, AreLevelMemos, AreMemos, AreOutcomes}
 use Rattle.aq_symbolic.specs.declared.memos.Memos.{Memos}
 
 -- what holds at an Ok

@@ -99,7 +99,6 @@ fn drawn_state(alloc: Global, draws: &mut Draws) -> Result<Vector, Fail>
 }
 
 /// The node whose vector is the state's entries of an index that begins with these digits, as many as are left.
-#[cycle(state)]
 fn state(
     store: &mut Store<Amp>,
     amps: &[Amp],

@@ -4,14 +4,14 @@
 //! what comes of it.
 #![tactic(auto)]
 
+#[cfg(test)]
+mod drawn;
 mod fragment;
 mod kept;
 mod memos;
 mod nonzero;
 mod several;
 mod spread;
-#[cfg(test)]
-mod drawn;
 #[cfg(test)]
 mod tests;
 

@@ -2,17 +2,18 @@ use Rattle.std.proofs.Common.{rules, ◌≡◌, ◌<◌, ◌+◌, ◌*◌, ◌�
 use Rattle.std.specs.Vec.{vec_len}
 use Rattle.std.proofs.Math.ListN.{drop_of_length-le}
 use Rattle.std.proofs.lemmas.Iterator.Adapters.{YieldsList-from_vec}
-use Rattle.std.proofs.lemmas.Iterator.Consumers.{YieldsList-turn}
+use Rattle.std.proofs.lemmas.Iterator.Consumers.{YieldsList-turn, YieldsList-end}
 use Rattle.aq_prog.specs.declared.stmt.Stmt.{Stmt}
 use Rattle.aq_prog.specs.declared.stmt.Stmt.TheOpen.{Stmt-F}
 use Rattle.aq_plain.proofs.PlayLaws.{ok_gives, err_gives, weight, weight_of, branch_weight, next_weight}
 use Rattle.aq_store.proofs.StopLemmas.{passed_on}
 use Rattle.aq_symbolic.specs.Memos.{AreMemos}
 use Rattle.aq_symbolic.specs.Moves.{of_branch, of_stmt, of_gate, of_measurement, of_reset, of_assumption}
-use Rattle.aq_symbolic.specs.Playing.{Leaves, Stops}
+use Rattle.aq_symbolic.specs.Playing.{Collects, Leaves, Stops}
+use Rattle.aq_symbolic.specs.declared.kept.World.{World}
 use Rattle.aq_symbolic.proofs.BranchLemmas.{if_leaves, if_stops, leaves_as, stops_as, taken_leaves, taken_stops}
 use Rattle.aq_symbolic.proofs.CallLemmas.{assume_bits, assume_start, assumed_leaves, fits_call, gate_call, if_bits, if_start, measure_bit, measure_qubit, memory_at, next_plays, next_uncut, no_plays, no_uncut, one_plays, one_stmt_plays, reset_qubit, yes_plays, yes_uncut}
-use Rattle.aq_symbolic.proofs.CollectLemmas.{collect_none, collect_step, sized_at, stop_at}
+use Rattle.aq_symbolic.proofs.CollectLemmas.{collect_end, collect_none, collect_step, sized_at, stop_at}
 use Rattle.aq_symbolic.proofs.LeadLemmas.{leads_next, leads_out, leads_start, stop_next}
 use Rattle.aq_symbolic.proofs.MemoLemmas.{assume_out, gate_out, if_out, measure_out, memos_in, memos_new, memos_out, ok_always, ok_then, reset_out}
 use Rattle.aq_symbolic.proofs.MoveLemmas.{of_if, assume_move, gate_move, if_move, measure_move, reset_move}
@@ -280,11 +281,14 @@ play_each-returns-in_default-clause-err g t c =
     c.loop-world.invariant.keeps.table c.play_one.ensures.keeps.table c.loop-world.invariant.made c.in_ok-more.ensures.ok
 
 pub play_each-loop-world-init : goal.play_each-loop-world-init
-play_each-loop-world-init g t c = record {
-  keeps = keeps_none c.args.store.now c.args.steps.now c.requires.paid;
-  made = collect_none g.L.Label.parts g.L.Label.part_count (of_stmt c.args.stmt.now) c.args.store.now c.args.steps.now c.args.worlds.items;
-  memos = λ n m s. memos_new g.L.Label.parts g.L.Label.part_count n c.args.store.now c.new-memos.result c.new-memos.ensures c.args.stmt.now;
-}
+play_each-loop-world-init g t c =
+    let empty : c.new-list.result.items ≡ [] = search rules in
+    record {
+      keeps = keeps_none c.args.store.now c.args.steps.now c.requires.paid;
+      made = subst (λ (l : List World). Collects g.L.Label.parts g.L.Label.part_count (of_stmt c.args.stmt.now) c.args.store.now c.args.store.now c.args.steps.now c.args.steps.now c.args.worlds.items [] l) (sym empty)
+          (collect_none g.L.Label.parts g.L.Label.part_count (of_stmt c.args.stmt.now) c.args.store.now c.args.steps.now c.args.worlds.items);
+      memos = λ n m s. memos_new g.L.Label.parts g.L.Label.part_count n c.args.store.now c.new-memos.result c.new-memos.ensures c.args.stmt.now;
+    }
 
 pub play_each-loop-world-preserved : goal.play_each-loop-world-preserved
 play_each-loop-world-preserved g t c =
@@ -300,6 +304,17 @@ play_each-loop-world-preserved g t c =
           let here = sized_at n m c.args.store.now all (length c.loop-world.yielded) c.in-Some.world turn.0 turn.1 s in
           subst (λ k. AreMemos g.L.Label.parts g.L.Label.part_count k c.play_one.new.store c.play_one.new.memos c.args.stmt.now) here.levels c.in_ok-more.ensures.memos;
     }
+
+pub play_each-returns-in_err-more-clause-keeps : goal.play_each-returns-in_err-more-clause-keeps
+play_each-returns-in_err-more-clause-keeps g t c = keeps_then c.args.store.now c.loop-world.store c.play_one.new.store c.args.steps.now c.loop-world.steps c.play_one.new.steps c.loop-world.invariant.keeps c.play_one.ensures.keeps
+
+pub play_each-returns-clause-ok : goal.play_each-returns-clause-ok
+play_each-returns-clause-ok g t c =
+    let all = c.args.worlds.items in
+    let given = c.into_iter-world-iterator.ensures.into_iter_gives in
+    let len : vec_len c.args.worlds ≡ length all = search rules in
+    let end = YieldsList-end (YieldsList-from_vec all given.0 (given.1 ∙ len)) c.loop-world.yielded c.loop-world.world-iterator c.loop-world.yielded_by c.next.result c.next.new.self c.in-None.is c.next.ensures.steps in
+    collect_end g.L.Label.parts g.L.Label.part_count (of_stmt c.args.stmt.now) c.args.store.now c.loop-world.store c.args.steps.now c.loop-world.steps all c.loop-world.list.items (length c.loop-world.yielded) end.1 c.loop-world.invariant.made
 
 -- ---- statements in order
 
