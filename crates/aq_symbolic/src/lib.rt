@@ -4,8 +4,6 @@
 //! what comes of it.
 #![tactic(auto)]
 
-#[cfg(test)]
-mod drawn;
 mod fragment;
 mod kept;
 mod memos;
