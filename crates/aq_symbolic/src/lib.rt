@@ -4,6 +4,8 @@
 //! what comes of it.
 #![tactic(auto)]
 
+#[cfg(test)]
+mod drawn;
 mod fragment;
 mod kept;
 mod memos;
