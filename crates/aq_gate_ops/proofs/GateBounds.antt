@@ -1,6 +1,6 @@
 -- What is owed for all levels of a tree, with no key counted as another.
 use Rattle.std.proofs.Common.{◌≡◌, ℕ, zero, suc, ◌+◌, ◌-◌, ◌*◌, ◌^◌, ◌<◌, ◌≤◌, ◌⊎◌, inl, inr, Bool, false, List, [], ◌∷◌, ◌++◌, length, drop, get_or, slice_get}
-use Rattle.std.proofs.Common.{Some, refl, sym, ap, ap₂, subst, ◌∙◌, arith, lit≤}
+use Rattle.std.proofs.Common.{Some, refl, sym, ap, ap₂, subst, ◌∙◌, arith, lit≤, true≢false}
 use native.Mathlib.Numerals.{unary_clauses}
 use Rattle.std.specs.List.{fold}
 use Rattle.std.proofs.Math.Nat.{mul-le-mul_left}
@@ -13,9 +13,13 @@ use Rattle.aq_store.specs.Owed.{IsIn, first_of, missing, owed}
 use Rattle.aq_store.specs.Words.{words}
 use Rattle.aq_store.proofs.RunLemmas.{slice_get-append_cases, slice_get-append_left, slice_get-append_right}
 use Rattle.aq_store.proofs.MeansLemmas.{opened}
-use Rattle.aq_store.proofs.OwedLemmas.{missing-none}
+use Rattle.aq_store.proofs.OwedLemmas.{missing-none, owed-less}
 use Rattle.aq_store.proofs.TableLemmas.{slice_get-some}
 use Rattle.aq_gate_ops.specs.Accounts.{row_prices, gate_prices, ArePairLevels, AreGateLevels, HoldGate}
+
+-- no more is owed than where nothing is done
+pub owed-any : {K : Type 0} → (prices : List ℕ) (done : K → Bool) (levels : List (List K)) → owed prices done levels ≤ owed prices (λ _. false) levels
+owed-any prices done levels = owed-less prices (λ _. false) done (λ k e. absurd (true≢false (sym e))) levels
 
 -- ---- lists of lists
 abbrev pub flat : {A B : Type 0} → (A → List B) → List A → List B
@@ -321,12 +325,12 @@ module _ {L : Type 0} (table : List (Node L)) where
       by zero e = let is : root ≡ i = cc in subst (HasShape table shape) is s
       by (suc k) e = cc
 
-  -- levels that hold a root, and what is owed for them
-  pub gate_root : (none : ℕ → Bool) → ((i : ℕ) → none i ≡ false) → (free : ℕ × ℕ → Bool) → ((p : ℕ × ℕ) → free p ≡ false) → (m : ℕ) (copy shape : List ℕ) (root : ℕ) → copy ≡ shape → m < length copy → IsSome copy
+  -- levels that hold a root, and what is owed for them where nothing is done
+  gate_root_new : (none : ℕ → Bool) → ((i : ℕ) → none i ≡ false) → (free : ℕ × ℕ → Bool) → ((p : ℕ × ℕ) → free p ≡ false) → (m : ℕ) (copy shape : List ℕ) (root : ℕ) → copy ≡ shape → m < length copy → IsSome copy
       → HasShape table copy root
       → (levels : List (List ℕ)) × (pairs : List (List (ℕ × ℕ))) × HoldGate table m copy root levels pairs
       × (owed (gate_prices (suc m) copy) none levels + owed (row_prices (drop (suc m) copy)) free pairs ≤ 2 * words shape * 2 ^ (length shape + 1))
-  gate_root none new free fresh m copy shape root is lt some s =
+  gate_root_new none new free fresh m copy shape root is lt some s =
       let all = λ (i : ℕ) (h : IsIn i (root ∷ [])). only copy root i h s in
       let b = gate_bound none new free fresh m copy (root ∷ []) lt all in
       let one : 1 * gate_budget m copy ≡ gate_budget m copy = omega arith in
@@ -335,4 +339,19 @@ module _ {L : Type 0} (table : List (Node L)) where
         gate_pairs m copy (root ∷ []),
         record { closed = are_gate_levels m copy (root ∷ []) all; here = subst (IsIn root) (sym (first_gate m copy (root ∷ []))) (record { place = 0; at = refl }) },
         omega arith,
+      )
+
+  -- the same, whatever is done
+  pub gate_root : (done : ℕ → Bool) (made : ℕ × ℕ → Bool) → (m : ℕ) (copy shape : List ℕ) (root : ℕ) → copy ≡ shape → m < length copy → IsSome copy
+      → HasShape table copy root
+      → (levels : List (List ℕ)) × (pairs : List (List (ℕ × ℕ))) × HoldGate table m copy root levels pairs
+      × (owed (gate_prices (suc m) copy) done levels + owed (row_prices (drop (suc m) copy)) made pairs ≤ 2 * words shape * 2 ^ (length shape + 1))
+  gate_root done made m copy shape root is lt some s =
+      let r = gate_root_new (λ _. false) (λ i. refl) (λ _. false) (λ p. refl) m copy shape root is lt some s in
+      let a = owed-any (gate_prices (suc m) copy) done r.0 in
+      let b = owed-any (row_prices (drop (suc m) copy)) made r.1 in (
+        r.0,
+        r.1,
+        r.2,
+        omega (arith, r.3),
       )

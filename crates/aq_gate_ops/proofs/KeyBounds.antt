@@ -15,7 +15,7 @@ use Rattle.aq_store.proofs.OwedLemmas.{missing-none}
 use Rattle.aq_store.proofs.MeansLemmas.{opened}
 use Rattle.aq_gate_ops.specs.Counts.{node_count, pair_count}
 use Rattle.aq_gate_ops.specs.Accounts.{row_prices, gate_prices, ones, ArePairLevels, AreGateLevels, HoldGate}
-use Rattle.aq_gate_ops.proofs.GateBounds.{flat, in_left, in_right, in_either, flat_has, flat_all, side_is, sides_left, sides_right, sides_at, only}
+use Rattle.aq_gate_ops.proofs.GateBounds.{owed-any, flat, in_left, in_right, in_either, flat_has, flat_all, side_is, sides_left, sides_right, sides_at, only}
 
 -- ---- members of a list of different keys
 any_in : (ks : List ℕ) (x : ℕ) → list_any (nat_eq x) ks ≡ true → IsIn x ks
@@ -223,12 +223,12 @@ target_counted none new (p ∷ prices) m [] = omega arith
 target_counted none new prices zero (l ∷ ls) = let b = couples_counted none new prices ls in omega arith
 target_counted none new prices (suc m) (l ∷ ls) = let b = target_counted none new prices m ls in omega arith
 
--- levels that hold the root, and their keys
-pub gate_counted : {L : Type 0} (table : List (Node L)) (none : ℕ → Bool) → ((i : ℕ) → none i ≡ false) → (free : ℕ × ℕ → Bool) → ((p : ℕ × ℕ) → free p ≡ false) → (m : ℕ) (copy : List ℕ) (lsta : Lsta) → copy ≡ lsta.shape.items
+-- levels that hold the root, and their keys, where nothing is done
+gate_counted_new : {L : Type 0} (table : List (Node L)) (none : ℕ → Bool) → ((i : ℕ) → none i ≡ false) → (free : ℕ × ℕ → Bool) → ((p : ℕ × ℕ) → free p ≡ false) → (m : ℕ) (copy : List ℕ) (lsta : Lsta) → copy ≡ lsta.shape.items
     → HasShape table copy lsta.root
     → (levels : List (List ℕ)) × (pairs : List (List (ℕ × ℕ))) × HoldGate table m copy lsta.root levels pairs
     × (owed (ones (gate_prices (suc m) copy)) none levels + owed (ones (row_prices (drop (suc m) copy))) free pairs ≤ node_count (levels_of table lsta) + pair_count (levels_of table lsta))
-gate_counted table none new free fresh m copy lsta is s =
+gate_counted_new table none new free fresh m copy lsta is s =
     let all = λ (i : ℕ) (h : IsIn i (lsta.root ∷ [])). only table copy lsta.root i h s in
     let levels = levels_from table copy (lsta.root ∷ []) in
     let same = ap (λ u. levels_from table u (lsta.root ∷ [])) is in
@@ -240,6 +240,21 @@ gate_counted table none new free fresh m copy lsta is s =
       target_couples m levels,
       record { closed = gate_couples table m copy (lsta.root ∷ []) all; here = subst (IsIn lsta.root) (sym (first_level table copy (lsta.root ∷ []))) (record { place = 0; at = refl }) },
       omega arith,
+    )
+
+-- the same, whatever is done
+pub gate_counted : {L : Type 0} (table : List (Node L)) (done : ℕ → Bool) (made : ℕ × ℕ → Bool) → (m : ℕ) (copy : List ℕ) (lsta : Lsta) → copy ≡ lsta.shape.items
+    → HasShape table copy lsta.root
+    → (levels : List (List ℕ)) × (pairs : List (List (ℕ × ℕ))) × HoldGate table m copy lsta.root levels pairs
+    × (owed (ones (gate_prices (suc m) copy)) done levels + owed (ones (row_prices (drop (suc m) copy))) made pairs ≤ node_count (levels_of table lsta) + pair_count (levels_of table lsta))
+gate_counted table done made m copy lsta is s =
+    let r = gate_counted_new table (λ _. false) (λ i. refl) (λ _. false) (λ p. refl) m copy lsta is s in
+    let a = owed-any (ones (gate_prices (suc m) copy)) done r.0 in
+    let b = owed-any (ones (row_prices (drop (suc m) copy))) made r.1 in (
+      r.0,
+      r.1,
+      r.2,
+      omega (arith, r.3),
     )
 
 -- a place of a shape is in the table

@@ -1,6 +1,6 @@
 -- What is owed for all levels of a tree, with no place counted as another.
 use Rattle.std.proofs.Common.{◌≡◌, ℕ, zero, suc, ◌+◌, ◌-◌, ◌*◌, ◌<◌, ◌≤◌, ◌⊎◌, inl, inr, Bool, true, false, List, [], ◌∷◌, ◌++◌, length, slice_get}
-use Rattle.std.proofs.Common.{Option, None, Some, refl, sym, ap, ap₂, subst, ◌∙◌, arith}
+use Rattle.std.proofs.Common.{Option, None, Some, refl, sym, ap, ap₂, subst, ◌∙◌, arith, true≢false}
 use Rattle.std.proofs.Math.Nat.{mul-le-mul_left}
 use Rattle.std.proofs.lemmas.List.{length-append}
 use Rattle.aq_store.specs.declared.node.Node.{Node}
@@ -11,7 +11,7 @@ use Rattle.aq_store.specs.Owed.{IsIn, first_of, rest_of, missing, owed, IsLevel,
 use Rattle.aq_store.specs.Words.{IsWider}
 use Rattle.aq_store.proofs.RunLemmas.{slice_get-append_cases, slice_get-append_left, slice_get-append_right}
 use Rattle.aq_store.proofs.MeansLemmas.{opened}
-use Rattle.aq_store.proofs.OwedLemmas.{missing-none}
+use Rattle.aq_store.proofs.OwedLemmas.{missing-none, owed-less}
 use Rattle.aq_measure_ops.proofs.BudgetLemmas.{budget}
 
 in_left : (u w : List ℕ) (i : ℕ) → IsIn i u → IsIn i (u ++ w)
@@ -151,6 +151,14 @@ module _ {L : Type 0} (table : List (Node L)) where
         },
         omega arith,
       )
+
+  -- the same, whatever is done
+  pub root_any : (done : ℕ → Bool) → (shape wide : List ℕ) (root : ℕ) → IsWider shape wide → HasShape table shape root
+      → (levels : List (List ℕ)) × HoldPlace table shape root levels × (owed (prices_of wide) done levels ≤ budget wide)
+  root_any done shape wide root w s =
+      let r = root_bound (λ _. false) (λ i. refl) shape wide root w s in
+      let a = owed-less (prices_of wide) (λ _. false) done (λ k e. absurd (true≢false (sym e))) r.0 in
+      (r.0, r.1, omega (arith, r.2))
 
   -- levels that hold the pairs of a root
   pub pairs_bound : (none : ℕ → Bool) → ((i : ℕ) → none i ≡ false) → (m : ℕ) (shape wide : List ℕ) (root : ℕ) → IsWider shape wide → HasShape table (m ∷ shape) root

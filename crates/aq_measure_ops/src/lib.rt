@@ -10,4 +10,4 @@ mod tests;
 
 pub use joining::{Joined, union, union_of};
 pub use padding::pad;
-pub use projection::project;
+pub use projection::{Projecting, project, project_with};

@@ -5,12 +5,29 @@ ghost use Rattle.aq_store.specs.Memos.{memo_at, is_done};
 ghost use Rattle.aq_store.specs.Accounts.{HoldPlace, HoldPair, TakesOwed, PaysOwed, StopsOwed};
 ghost use Rattle.aq_store.specs.Stops.{GivesUp};
 ghost use Rattle.aq_store.specs.Words.{words};
-ghost use Rattle.aq_measure_ops.specs.Projection.{Projects, IsBlank, IsMemo, IsProjected};
+ghost use Rattle.aq_measure_ops.specs.Projection.{IsBlank, IsFresh, IsMemo, IsProjected, IsProjecting, Projects};
 
 use crate::blank::blank_from;
 use aq_label::Label;
 use aq_store::{Id, Lsta, Memo, Pairs, Steps, Stop, Store};
 use std::alloc::Global;
+
+/// What a projection has made of nodes so far: a memo that many automata may share.
+#[derive(Drop)]
+pub struct Projecting {
+    nodes: Memo,
+}
+
+impl Projecting {
+    /// Nothing is done.
+    pub fn new(alloc: Global) -> Projecting
+        ensures { IsFresh result }
+    {
+        Projecting {
+            nodes: Memo::new(alloc),
+        }
+    }
+}
 
 /// The projection of a node at a depth that is no deeper than the qubit's. The zero is a tree of zeros for the
 /// depth below the qubit's, and the memo has the projections of nodes that were met before.
@@ -31,11 +48,11 @@ fn project_at<L: Label>(
     requires deep { depth ≤ qubit }
     requires qubit { qubit < length shape.now }
     requires zero { IsBlank L.parts store.old (drop (qubit + 1) shape.now) zero }
-    requires memo { IsMemo L.parts qubit outcome store.old shape.now (memo_at memo.old) }
+    requires memo { IsMemo L.parts qubit outcome (length shape.now) store.old (memo_at memo.old) }
     requires paid { total_cost store.old ≤ steps.old.taken }
     ensures image { let change = of_place (Projects L.parts (length shape.now) qubit outcome) store.old id in
         IfOk result (λ made. Means change store.new (drop depth shape.now) made) }
-    ensures memo { OnOk result (IsMemo L.parts qubit outcome store.new shape.now (memo_at memo.new)) }
+    ensures memo { OnOk result (IsMemo L.parts qubit outcome (length shape.now) store.new (memo_at memo.new)) }
     ensures done { (q : ℕ) → IsTrue (is_done (memo_at memo.old) q) → IsTrue (is_done (memo_at memo.new) q) }
     ensures keeps { Extends store.old store.new }
     ensures paid { total_cost store.new ≤ steps.new.taken }
@@ -86,11 +103,11 @@ fn project_pair<L: Label>(
     requires deep { depth ≤ qubit }
     requires qubit { qubit < length shape.now }
     requires zero { IsBlank L.parts store.old (drop (qubit + 1) shape.now) zero }
-    requires memo { IsMemo L.parts qubit outcome store.old shape.now (memo_at memo.old) }
+    requires memo { IsMemo L.parts qubit outcome (length shape.now) store.old (memo_at memo.old) }
     requires paid { total_cost store.old ≤ steps.old.taken }
     ensures image { let change = of_pair (Projects L.parts (length shape.now) qubit outcome) store.old pair in
         IfOk result (λ made. MeansPair change store.new (drop (depth + 1) shape.now) made) }
-    ensures memo { OnOk result (IsMemo L.parts qubit outcome store.new shape.now (memo_at memo.new)) }
+    ensures memo { OnOk result (IsMemo L.parts qubit outcome (length shape.now) store.new (memo_at memo.new)) }
     ensures done { (q : ℕ) → IsTrue (is_done (memo_at memo.old) q) → IsTrue (is_done (memo_at memo.new) q) }
     ensures keeps { Extends store.old store.new }
     ensures paid { total_cost store.new ≤ steps.new.taken }
@@ -137,6 +154,57 @@ fn project_pair<L: Label>(
 /// An automaton of the same shape, whose vector of each word is the projection of the vector of that word: what has
 /// the outcome as the qubit's digit stays, and all else is zero. It gives up for want of steps or of memory alone,
 /// and nodes of the store keep their meaning.
+///
+/// The memo is of this qubit and outcome and of automata of as many levels, and their shapes may differ. It stays so
+/// unless the call gives up.
+pub fn project_with<L: Label>(
+    alloc: Global,
+    store: &mut Store<L>,
+    projecting: &mut Projecting,
+    lsta: &Lsta,
+    qubit: u32,
+    outcome: bool,
+    steps: &mut Steps,
+) -> Result<Lsta, Stop<L>>
+    requires fits { FitsStore store.old lsta.now }
+    requires qubit { qubit < length lsta.now.shape.items }
+    requires memo { let levels = length lsta.now.shape.items in
+        IsProjecting L.parts qubit outcome levels store.old projecting.old }
+    requires paid { total_cost store.old ≤ steps.old.taken }
+    ensures projected { IfOk result (λ made. IsProjected L.parts qubit outcome store.old store.new lsta.now made) }
+    ensures memo { let levels = length lsta.now.shape.items in
+        OnOk result (IsProjecting L.parts qubit outcome levels store.new projecting.new) }
+    ensures keeps { Extends store.old store.new }
+    ensures paid { total_cost store.new ≤ steps.new.taken }
+    ensures limit { steps.new.limit ≡ steps.old.limit }
+    ensures steps { let shape = lsta.now.shape.items in
+        steps.new.taken ≤ steps.old.taken + 2 * words shape * 2 ^ (length shape + 1) }
+    ensures refused { let shape = lsta.now.shape.items in
+        IfErr result (GivesUp (2 * words shape * 2 ^ (length shape + 1)) steps.old steps.new) }
+{
+    let shape = lsta.shape.as_slice();
+    let zero = blank_from(alloc, store, shape, qubit as usize + 1, steps)?;
+    let root = project_at(
+        alloc,
+        store,
+        &mut projecting.nodes,
+        shape,
+        qubit,
+        outcome,
+        zero,
+        0,
+        lsta.root,
+        steps,
+    )?;
+    let Ok(shape) = shape.to_vec(alloc) else {
+        return Err(Stop::Memory);
+    };
+    Ok(Lsta { root, shape })
+}
+
+/// An automaton of the same shape, whose vector of each word is the projection of the vector of that word: what has
+/// the outcome as the qubit's digit stays, and all else is zero. It gives up for want of steps or of memory alone,
+/// and nodes of the store keep their meaning.
 pub fn project<L: Label>(
     alloc: Global,
     store: &mut Store<L>,
@@ -157,14 +225,6 @@ pub fn project<L: Label>(
     ensures refused { let shape = lsta.now.shape.items in
         IfErr result (GivesUp (2 * words shape * 2 ^ (length shape + 1)) steps.old steps.new) }
 {
-    let shape = lsta.shape.as_slice();
-    let zero = blank_from(alloc, store, shape, qubit as usize + 1, steps)?;
-    let mut memo = Memo::new(alloc);
-    let root = project_at(
-        alloc, store, &mut memo, shape, qubit, outcome, zero, 0, lsta.root, steps,
-    )?;
-    let Ok(shape) = shape.to_vec(alloc) else {
-        return Err(Stop::Memory);
-    };
-    Ok(Lsta { root, shape })
+    let mut projecting = Projecting::new(alloc);
+    project_with(alloc, store, &mut projecting, lsta, qubit, outcome, steps)
 }

@@ -9,6 +9,7 @@ mod Elements
 mod StopLemmas
 mod CollectLemmas
 mod LeadLemmas
+mod MemoLemmas
 mod BranchLemmas
 mod StepLemmas
 mod CallLemmas

@@ -41,6 +41,10 @@ in_list n t x m a b = by (digit n t x) refl (digit-below n t x)
     by (suc zero) f two = let is : with_digit n t 1 x ≡ x = ap (λ c. with_digit n t c x) (sym f) ∙ with_digit-own n t x in subst (λ y. y < m) is b
     by (suc (suc q)) f two = absurd (omega arith)
 
+-- the flip of a qubit, by its fields
+pub flip_is : (qubit : ℕ) (g : Gate) → g.controls ≡ [] → g.target ≡ qubit → g.matrix.rows ≡ (flip_gate qubit).matrix.rows → g ≡ flip_gate qubit
+flip_is qubit g none at rows = λ i. record { controls = none i; target = at i; matrix = record { rows = rows i } }
+
 module _ {L : Type 0} (parts : L → List Amplitude) (count : ℕ) (all_parts : (x : L) → length (parts x) ≡ count) where
   wide_term : (e : Entry) (p l r : L) → IsWideTerm parts count e p l r → ((k : ℕ) → k < count → FitsTerm e (part parts k p)) → ⊥
   wide_term e p l r w f =
@@ -82,6 +86,6 @@ module _ {L : Type 0} (parts : L → List Amplitude) (count : ℕ) (all_parts : 
   pub flip_narrow : (qubit : ℕ) (g : Gate) (table : List (Node L)) (lsta : Lsta) → g.controls ≡ [] → g.target ≡ qubit → g.matrix.rows ≡ (flip_gate qubit).matrix.rows → (l r : L) → IsGateCause parts count g table lsta l r → ⊥
   flip_narrow qubit g table lsta none at rows l r h =
       let n = length lsta.shape.items in
-      let is : g ≡ flip_gate qubit = λ i. record { controls = none i; target = at i; matrix = record { rows = rows i } } in
+      let is = flip_is qubit g none at rows in
       let u = unfit_set g table lsta l r h in
       u.wide (λ k lt. (let v = part_vector parts k (vector_of table lsta u.word) in subst (λ (x : Gate). FitsGate n x v) (sym is) (always_fits.flip n qubit v)))

@@ -4,3 +4,4 @@ pub mod Worlds
 pub mod Steps
 pub mod Splitting
 pub mod Playing
+pub mod Memos

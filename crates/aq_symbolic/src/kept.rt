@@ -1,19 +1,21 @@
 //! A world, and its steps.
 ghost use Rattle.std.specs.Prelude.{◌≡◌, ◌<◌, ◌≤◌, ◌+◌, ◌*◌, ◌++◌, [], ◌∷◌, Some, IfOk, IfErr, IfSome, OnOk};
 ghost use Rattle.std.specs.Prelude.{length, slice_get, slice_set};
-ghost use Rattle.aq_prog.specs.Gates.{apply_gate, project, IsValidGate};
+ghost use Rattle.aq_prog.specs.Gates.{apply_gate, flip_gate, project, IsValidGate};
 ghost use Rattle.aq_prog.specs.Runs.{flipped};
 ghost use Rattle.aq_store.specs.Nodes.{FitsStore, total_cost};
 ghost use Rattle.aq_gate_ops.specs.Accounts.{IsStopped};
+ghost use Rattle.aq_gate_ops.specs.Action.{IsActing};
 ghost use Rattle.aq_gate_ops.specs.Causes.{IsCause};
+ghost use Rattle.aq_measure_ops.specs.Projection.{IsProjecting};
 ghost use Rattle.aq_obligations.specs.Worlds.{is_known, stored};
 ghost use Rattle.aq_symbolic.specs.Steps.{FitsSet, IsUnfitSet, Keeps, cleared, is_unknown};
 ghost use Rattle.aq_symbolic.specs.Steps.{HasFields, IsMapped, IsSameSet};
 ghost use Rattle.aq_symbolic.specs.Weights.{price};
 
-use aq_gate_ops::apply;
+use aq_gate_ops::{Acting, apply_with};
 use aq_label::Label;
-use aq_measure_ops::project;
+use aq_measure_ops::{Projecting, project_with};
 use aq_prog::{Entry, Gate, Guard};
 use aq_store::{Lsta, Steps, Stop, Store};
 use sqlite_items::Items;
@@ -49,6 +51,7 @@ fn copy_of(alloc: Global, lsta: &Lsta) -> Result<Lsta, AllocError>
 fn clear<L: Label>(
     alloc: Global,
     store: &mut Store<L>,
+    flip: &mut Acting,
     lsta: Lsta,
     qubit: u32,
     outcome: bool,
@@ -56,9 +59,13 @@ fn clear<L: Label>(
 ) -> Result<Lsta, Stop<L>>
     requires fits { FitsStore store.old lsta }
     requires qubit { qubit < length lsta.shape.items }
+    requires memo { let levels = length lsta.shape.items in
+        IsActing L.parts L.part_count (flip_gate qubit) levels store.old flip.old }
     requires paid { total_cost store.old ≤ steps.old.taken }
     ensures cleared { let flip = flipped (length lsta.shape.items) qubit outcome in
         IfOk result (IsMapped L.parts L.part_count flip store.old store.new lsta) }
+    ensures memo { let levels = length lsta.shape.items in
+        OnOk result (IsActing L.parts L.part_count (flip_gate qubit) levels store.new flip.new) }
     ensures keeps { Keeps store.old store.new steps.old steps.new }
     ensures steps { steps.new.taken ≤ steps.old.taken + 2 * price lsta.shape.items }
     ensures refused { IfErr result (IsStopped (2 * price lsta.shape.items) steps.old steps.new) }
@@ -68,7 +75,7 @@ fn clear<L: Label>(
         return Ok(lsta);
     }
     let gate = Gate::new(Items::new(alloc), qubit, FLIP);
-    let made = apply(alloc, store, &lsta, &gate, steps)?;
+    let made = apply_with(alloc, store, flip, &lsta, &gate, steps)?;
     Ok(made)
 }
 
@@ -163,17 +170,22 @@ impl World {
         self,
         alloc: Global,
         store: &mut Store<L>,
+        acting: &mut Acting,
         gate: &Gate,
         steps: &mut Steps,
     ) -> Result<World, Stop<L>>
         requires fits { FitsStore store.old self.lsta }
         requires valid { IsValidGate (length self.lsta.shape.items) gate.now }
+        requires memo { let levels = length self.lsta.shape.items in
+            IsActing L.parts L.part_count gate.now levels store.old acting.old }
         requires paid { total_cost store.old ≤ steps.old.taken }
         ensures fields { IfOk result (HasFields self self.start self.bits self.outcomes) }
         ensures set { let played = apply_gate (length self.lsta.shape.items) gate.now in
             IfOk result (λ w. IsMapped L.parts L.part_count played store.old store.new self.lsta w.lsta) }
         ensures fit { OnOk result
             (FitsSet L.parts L.part_count (length self.lsta.shape.items) gate.now store.old self.lsta) }
+        ensures memo { let levels = length self.lsta.shape.items in
+            OnOk result (IsActing L.parts L.part_count gate.now levels store.new acting.new) }
         ensures keeps { Keeps store.old store.new steps.old steps.new }
         ensures steps { steps.new.taken ≤ steps.old.taken + 2 * price self.lsta.shape.items }
         ensures refused { IfErr result (IsStopped (2 * price self.lsta.shape.items) steps.old steps.new) }
@@ -188,7 +200,7 @@ impl World {
             outcomes,
             lsta: before,
         } = self;
-        let lsta = apply(alloc, store, &before, gate, steps)?;
+        let lsta = apply_with(alloc, store, acting, &before, gate, steps)?;
         Ok(World {
             case,
             start,
@@ -204,6 +216,7 @@ impl World {
         &self,
         alloc: Global,
         store: &mut Store<L>,
+        projecting: &mut Projecting,
         qubit: u32,
         bit: Option<u32>,
         outcome: bool,
@@ -212,17 +225,21 @@ impl World {
         requires fits { FitsStore store.old self.now.lsta }
         requires qubit { qubit < length self.now.lsta.shape.items }
         requires bit { IfSome bit (λ b. b < length self.now.bits) }
+        requires memo { let levels = length self.now.lsta.shape.items in
+            IsProjecting L.parts qubit outcome levels store.old projecting.old }
         requires paid { total_cost store.old ≤ steps.old.taken }
         ensures fields { let bits = stored bit outcome self.now.bits in
             IfOk result (HasFields self.now self.now.start bits (self.now.outcomes ++ outcome ∷ [])) }
         ensures set { let half = project (length self.now.lsta.shape.items) qubit outcome in
             IfOk result (λ w. IsMapped L.parts L.part_count half store.old store.new self.now.lsta w.lsta) }
+        ensures memo { let levels = length self.now.lsta.shape.items in
+            OnOk result (IsProjecting L.parts qubit outcome levels store.new projecting.new) }
         ensures keeps { Keeps store.old store.new steps.old steps.new }
         ensures steps { steps.new.taken ≤ steps.old.taken + 2 * price self.now.lsta.shape.items }
         ensures refused { IfErr result (IsStopped (2 * price self.now.lsta.shape.items) steps.old steps.new) }
         ensures narrow { IfErr result (IsCause (λ l r. ⊥)) }
     {
-        let lsta = project(alloc, store, &self.lsta, qubit, outcome, steps)?;
+        let lsta = project_with(alloc, store, projecting, &self.lsta, qubit, outcome, steps)?;
         let Ok(world) = self.after(alloc, bit, outcome, lsta) else {
             return Err(Stop::Memory);
         };
@@ -235,24 +252,34 @@ impl World {
         &self,
         alloc: Global,
         store: &mut Store<L>,
+        projecting: &mut Projecting,
+        flip: &mut Acting,
         qubit: u32,
         outcome: bool,
         steps: &mut Steps,
     ) -> Result<World, Stop<L>>
         requires fits { FitsStore store.old self.now.lsta }
         requires qubit { qubit < length self.now.lsta.shape.items }
+        requires memo { let levels = length self.now.lsta.shape.items in
+            IsProjecting L.parts qubit outcome levels store.old projecting.old }
+        requires flip { let levels = length self.now.lsta.shape.items in
+            IsActing L.parts L.part_count (flip_gate qubit) levels store.old flip.old }
         requires paid { total_cost store.old ≤ steps.old.taken }
         ensures fields { let outcomes = self.now.outcomes ++ outcome ∷ [] in
             IfOk result (HasFields self.now self.now.start self.now.bits outcomes) }
         ensures set { let left = cleared (length self.now.lsta.shape.items) qubit outcome in
             IfOk result (λ w. IsMapped L.parts L.part_count left store.old store.new self.now.lsta w.lsta) }
+        ensures memo { let levels = length self.now.lsta.shape.items in
+            OnOk result (IsProjecting L.parts qubit outcome levels store.new projecting.new) }
+        ensures flip { let levels = length self.now.lsta.shape.items in
+            OnOk result (IsActing L.parts L.part_count (flip_gate qubit) levels store.new flip.new) }
         ensures keeps { Keeps store.old store.new steps.old steps.new }
         ensures steps { steps.new.taken ≤ steps.old.taken + 4 * price self.now.lsta.shape.items }
         ensures refused { IfErr result (IsStopped (4 * price self.now.lsta.shape.items) steps.old steps.new) }
         ensures narrow { IfErr result (IsCause (λ l r. ⊥)) }
     {
-        let half = project(alloc, store, &self.lsta, qubit, outcome, steps)?;
-        let lsta = clear(alloc, store, half, qubit, outcome, steps)?;
+        let half = project_with(alloc, store, projecting, &self.lsta, qubit, outcome, steps)?;
+        let lsta = clear(alloc, store, flip, half, qubit, outcome, steps)?;
         let Ok(world) = self.after(alloc, None, outcome, lsta) else {
             return Err(Stop::Memory);
         };

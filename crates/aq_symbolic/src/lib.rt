@@ -4,8 +4,11 @@
 //! what comes of it.
 #![tactic(auto)]
 
+#[cfg(test)]
+mod drawn;
 mod fragment;
 mod kept;
+mod memos;
 mod nonzero;
 mod several;
 mod spread;
@@ -14,4 +17,5 @@ mod tests;
 
 pub use fragment::{go, split};
 pub use kept::World;
+pub use memos::Memos;
 pub use several::{alive, measure, play_gate, reset};

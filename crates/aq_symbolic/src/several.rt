@@ -2,6 +2,8 @@
 ghost use Rattle.std.specs.Prelude.{◌≡◌, ◌<◌, ◌≤◌, [], ◌∷◌, length, IfOk, IfErr, IfSome, OnOk};
 ghost use Rattle.aq_prog.specs.Gates.{IsValidGate};
 ghost use Rattle.aq_store.specs.Nodes.{FitsStore, total_cost};
+ghost use Rattle.aq_gate_ops.specs.Action.{IsActing};
+ghost use Rattle.aq_symbolic.specs.Memos.{AreOutcomes, AreResets};
 ghost use Rattle.aq_symbolic.specs.Moves.{of_gate, of_measurement, of_reset};
 ghost use Rattle.aq_symbolic.specs.Playing.{Leaves, Stops};
 ghost use Rattle.aq_symbolic.specs.Splitting.{IsAssumed, IsSplit};
@@ -9,6 +11,7 @@ ghost use Rattle.aq_symbolic.specs.Steps.{AddsLive, AreAlive, Keeps};
 ghost use Rattle.aq_symbolic.specs.Worlds.{AllFitStore};
 
 use crate::kept::World;
+use crate::memos::Memos;
 use crate::nonzero::has_state;
 use aq_label::Label;
 use aq_prog::{Gate, Guard};
@@ -82,20 +85,25 @@ pub(crate) fn split_world(alloc: Global, world: World, bit: u32) -> Result<Vec<W
 pub fn play_gate<L: Label>(
     alloc: Global,
     store: &mut Store<L>,
+    memos: &mut Memos,
     world: World,
     gate: &Gate,
     steps: &mut Steps,
 ) -> Result<Vec<World>, Stop<L>>
     requires fits { FitsStore store.old world.lsta }
     requires valid { IsValidGate (length world.lsta.shape.items) gate.now }
+    requires memos { let levels = length world.lsta.shape.items in
+        IsActing L.parts L.part_count gate.now levels store.old memos.old.acting }
     requires paid { total_cost store.old ≤ steps.old.taken }
     ensures ok { let leaves = Leaves L.parts L.part_count (of_gate gate.now) store.old store.new steps.old steps.new in
         IfOk result (λ list. leaves (world ∷ []) list.items) }
+    ensures memos { let levels = length world.lsta.shape.items in
+        OnOk result (IsActing L.parts L.part_count gate.now levels store.new memos.new.acting) }
     ensures keeps { Keeps store.old store.new steps.old steps.new }
     ensures err { IfErr result
         (Stops L.parts L.part_count (of_gate gate.now) store.old (world ∷ []) steps.old steps.new) }
 {
-    let after = world.gate(alloc, store, gate, steps)?;
+    let after = world.gate(alloc, store, &mut memos.acting, gate, steps)?;
     let Ok(list) = one(alloc, after) else {
         return Err(Stop::Memory);
     };
@@ -107,6 +115,7 @@ pub fn play_gate<L: Label>(
 pub fn measure<L: Label>(
     alloc: Global,
     store: &mut Store<L>,
+    memos: &mut Memos,
     world: World,
     qubit: u32,
     bit: Option<u32>,
@@ -115,16 +124,20 @@ pub fn measure<L: Label>(
     requires fits { FitsStore store.old world.lsta }
     requires qubit { qubit < length world.lsta.shape.items }
     requires bit { IfSome bit (λ b. b < length world.bits) }
+    requires memos { let levels = length world.lsta.shape.items in
+        AreOutcomes L.parts L.part_count levels store.old memos.old qubit }
     requires paid { total_cost store.old ≤ steps.old.taken }
     ensures ok { let move = of_measurement qubit bit in
         let leaves = Leaves L.parts L.part_count move store.old store.new steps.old steps.new in
         IfOk result (λ list. leaves (world ∷ []) list.items) }
+    ensures memos { let levels = length world.lsta.shape.items in
+        OnOk result (AreOutcomes L.parts L.part_count levels store.new memos.new qubit) }
     ensures keeps { Keeps store.old store.new steps.old steps.new }
     ensures err { let move = of_measurement qubit bit in
         IfErr result (Stops L.parts L.part_count move store.old (world ∷ []) steps.old steps.new) }
 {
-    let zero = world.take_outcome(alloc, store, qubit, bit, false, steps)?;
-    let other = world.take_outcome(alloc, store, qubit, bit, true, steps)?;
+    let zero = world.take_outcome(alloc, store, &mut memos.zero, qubit, bit, false, steps)?;
+    let other = world.take_outcome(alloc, store, &mut memos.other, qubit, bit, true, steps)?;
     let Ok(both) = two(alloc, zero, other) else {
         return Err(Stop::Memory);
     };
@@ -139,21 +152,42 @@ pub fn measure<L: Label>(
 pub fn reset<L: Label>(
     alloc: Global,
     store: &mut Store<L>,
+    memos: &mut Memos,
     world: World,
     qubit: u32,
     steps: &mut Steps,
 ) -> Result<Vec<World>, Stop<L>>
     requires fits { FitsStore store.old world.lsta }
     requires qubit { qubit < length world.lsta.shape.items }
+    requires memos { let levels = length world.lsta.shape.items in
+        AreResets L.parts L.part_count levels store.old memos.old qubit }
     requires paid { total_cost store.old ≤ steps.old.taken }
     ensures ok { let leaves = Leaves L.parts L.part_count (of_reset qubit) store.old store.new steps.old steps.new in
         IfOk result (λ list. leaves (world ∷ []) list.items) }
+    ensures memos { let levels = length world.lsta.shape.items in
+        OnOk result (AreResets L.parts L.part_count levels store.new memos.new qubit) }
     ensures keeps { Keeps store.old store.new steps.old steps.new }
     ensures err { IfErr result
         (Stops L.parts L.part_count (of_reset qubit) store.old (world ∷ []) steps.old steps.new) }
 {
-    let zero = world.reset(alloc, store, qubit, false, steps)?;
-    let other = world.reset(alloc, store, qubit, true, steps)?;
+    let zero = world.reset(
+        alloc,
+        store,
+        &mut memos.zero,
+        &mut memos.acting,
+        qubit,
+        false,
+        steps,
+    )?;
+    let other = world.reset(
+        alloc,
+        store,
+        &mut memos.other,
+        &mut memos.acting,
+        qubit,
+        true,
+        steps,
+    )?;
     let Ok(both) = two(alloc, zero, other) else {
         return Err(Stop::Memory);
     };

@@ -1,41 +1,48 @@
 //! Statements, played on worlds.
-ghost use Rattle.std.specs.Prelude.{◌≡◌, ◌≤◌, IfOk, IfErr, [], ◌∷◌, false};
+ghost use Rattle.std.specs.Prelude.{◌≡◌, ◌≤◌, IfOk, IfErr, OnOk, [], ◌∷◌, false, length};
 ghost use Rattle.aq_prog.specs.Cuts.{has_cut, AreUncut};
 ghost use Rattle.aq_store.specs.Nodes.{total_cost};
+ghost use Rattle.aq_symbolic.specs.Memos.{AreMemos};
 ghost use Rattle.aq_symbolic.specs.Moves.{of_body, of_branch, of_stmt};
 ghost use Rattle.aq_symbolic.specs.Playing.{CanPlay, CanPlayStmt, Leaves, Stops};
 ghost use Rattle.aq_symbolic.specs.Steps.{Keeps};
 
 use crate::kept::World;
+use crate::memos::Memos;
 use crate::several::{assume, measure, one, play_gate, reset, split_world};
 use aq_label::Label;
 use aq_prog::{Guard, Stmt};
 use aq_store::{Steps, Stop, Store};
 use std::alloc::Global;
 
-/// What a statement makes of a world.
+/// What a statement makes of a world. The memos have what it made of nodes of worlds before.
 #[cycle(playing)]
 fn play_one<L: Label>(
     alloc: Global,
     store: &mut Store<L>,
+    memos: &mut Memos,
     world: World,
     stmt: &Stmt,
     steps: &mut Steps,
 ) -> Result<Vec<World>, Stop<L>>
     requires playable { CanPlayStmt store.old (world ∷ []) stmt.now }
     requires uncut { has_cut stmt.now ≡ false }
+    requires memos { let levels = length world.lsta.shape.items in
+        AreMemos L.parts L.part_count levels store.old memos.old stmt.now }
     requires paid { total_cost store.old ≤ steps.old.taken }
     ensures ok { let move = of_stmt stmt.now in
         let leaves = Leaves L.parts L.part_count move store.old store.new steps.old steps.new in
         IfOk result (λ list. leaves (world ∷ []) list.items) }
+    ensures memos { let levels = length world.lsta.shape.items in
+        OnOk result (AreMemos L.parts L.part_count levels store.new memos.new stmt.now) }
     ensures keeps { Keeps store.old store.new steps.old steps.new }
     ensures err { let move = of_stmt stmt.now in
         IfErr result (Stops L.parts L.part_count move store.old (world ∷ []) steps.old steps.new) }
 {
     match stmt {
-        Stmt::Gate(gate) => play_gate(alloc, store, world, gate, steps),
-        Stmt::Measure { qubit, bit } => measure(alloc, store, world, *qubit, *bit, steps),
-        Stmt::Reset { qubit } => reset(alloc, store, world, *qubit, steps),
+        Stmt::Gate(gate) => play_gate(alloc, store, memos, world, gate, steps),
+        Stmt::Measure { qubit, bit } => measure(alloc, store, memos, world, *qubit, *bit, steps),
+        Stmt::Reset { qubit } => reset(alloc, store, memos, world, *qubit, steps),
         Stmt::If { guard, yes, no } => {
             let Ok(halves) = split_world(alloc, world, guard.bit) else {
                 return Err(Stop::Memory);
@@ -128,7 +135,7 @@ fn play_branches<L: Label>(
     Ok(list)
 }
 
-/// Plays a statement on each world.
+/// Plays a statement on each world, with the same memos.
 #[cycle(playing)]
 fn play_each<L: Label>(
     alloc: Global,
@@ -148,8 +155,9 @@ fn play_each<L: Label>(
         IfErr result (Stops L.parts L.part_count move store.old worlds.items steps.old steps.new) }
 {
     let mut list = Vec::new(alloc);
+    let mut memos = Memos::new(alloc);
     for world in worlds {
-        let mut more = play_one(alloc, store, world, stmt, steps)?;
+        let mut more = play_one(alloc, store, &mut memos, world, stmt, steps)?;
         let Ok(()) = list.append(&mut more) else {
             return Err(Stop::Memory);
         };

@@ -21,7 +21,7 @@ invariant-project_at-loop-index g l = record {
   keeps : Extends l.fn.store l.store;
   paid : total_cost l.store ≤ l.steps.taken;
   limit : l.steps.limit ≡ l.fn.steps.limit;
-  memo : IsMemo g.L.Label.parts l.qubit l.outcome l.store l.shape (memo_at l.memo);
+  memo : IsMemo g.L.Label.parts l.qubit l.outcome (length l.shape) l.store (memo_at l.memo);
   done : (q : ℕ) → IsTrue (is_done (memo_at l.fn.memo) q) → IsTrue (is_done (memo_at l.memo) q);
   cost : (levels : List (List ℕ)) → HoldPlace l.fn.store (drop l.depth l.shape) l.id levels
       → l.steps.taken + owed (prices_of (drop (l.depth + 1) l.shape)) (is_done (memo_at l.memo)) (rest_of levels) ≤ l.fn.steps.taken + owed (prices_of (drop

@@ -1,7 +1,8 @@
-use Rattle.std.proofs.Common.{◌+◌, ◌*◌, ◌≤◌, true, false, arith}
+use Rattle.std.proofs.Common.{◌+◌, ◌*◌, ◌≤◌, true, false, length, arith}
 use Rattle.aq_obligations.specs.Worlds.{measured_world}
 use Rattle.aq_store.proofs.StopLemmas.{passed_on}
 use Rattle.aq_store.proofs.TableLemmas.{HasShape-Extends}
+use Rattle.aq_measure_ops.proofs.ProjectionLemmas.{projecting_later}
 use Rattle.aq_symbolic.specs.Weights.{price}
 use Rattle.aq_symbolic.proofs.StepLemmas.{halves_leave, halves_stop, measured_half, two_fit}
 use Rattle.aq_symbolic.proofs.several.measure.Goals as goal
@@ -28,3 +29,12 @@ returns-clause-ok g c =
     (measured_half g.L.Label.parts g.L.Label.part_count c.args.qubit c.args.bit false c.args.store.now c.take_outcome.new.store c.args.world c.in_ok-zero.zero c.in_ok-zero.ensures.fields c.in_ok-zero.ensures.set)
     (measured_half g.L.Label.parts g.L.Label.part_count c.args.qubit c.args.bit true c.take_outcome.new.store c.take_outcome-2.new.store c.args.world c.in_ok-other.other c.in_ok-other.ensures.fields c.in_ok-other.ensures.set)
     c.in-Ok.ensures c.in-Ok-alive.ensures cheap
+
+pub take_outcome-requires-2-clause-memo : goal.take_outcome-requires-2-clause-memo
+take_outcome-requires-2-clause-memo g c = projecting_later g.L.Label.parts c.args.qubit true (length c.args.world.lsta.shape.items) c.args.store.now c.take_outcome.new.store c.take_outcome.ensures.keeps.table c.args.memos.now.other c.requires.memos.other
+
+pub returns-clause-memos : goal.returns-clause-memos
+returns-clause-memos g c = record {
+  zero = projecting_later g.L.Label.parts c.args.qubit false (length c.args.world.lsta.shape.items) c.take_outcome.new.store c.take_outcome-2.new.store c.take_outcome-2.ensures.keeps.table c.take_outcome.new.projecting c.in_ok-zero.ensures.memo;
+  other = c.in_ok-other.ensures.memo;
+}

@@ -1,7 +1,8 @@
-use Rattle.std.proofs.Common.{◌+◌, ◌*◌, ◌≤◌, true, false, refl, arith}
+use Rattle.std.proofs.Common.{◌+◌, ◌*◌, ◌≤◌, true, false, length, refl, arith}
 use Rattle.aq_obligations.specs.Worlds.{reset_world}
 use Rattle.aq_store.proofs.StopLemmas.{passed_on}
 use Rattle.aq_store.proofs.TableLemmas.{HasShape-Extends}
+use Rattle.aq_measure_ops.proofs.ProjectionLemmas.{projecting_later}
 use Rattle.aq_symbolic.specs.Weights.{price}
 use Rattle.aq_symbolic.proofs.StepLemmas.{halves_leave, halves_stop, reset_half, two_fit}
 use Rattle.aq_symbolic.proofs.StopLemmas.{stopped_memory}
@@ -43,3 +44,15 @@ returns-in_default-alive-clause-err g c =
     let second = c.reset-2.ensures.steps in
     let cheap : c.reset-2.new.steps.taken ≤ c.args.steps.now.taken + 8 * price c.args.world.lsta.shape.items = omega (arith, first, second) in
     halves_stop g.L.Label.parts g.L.Label.part_count (λ n x. reset_world n c.args.qubit false x) (λ n x. reset_world n c.args.qubit true x) c.args.store.now c.args.steps.now c.args.steps.now c.reset-2.new.steps (8 * price c.args.world.lsta.shape.items) c.args.world _ refl (omega arith) (stopped_memory c.args.steps.now c.reset-2.new.steps (8 * price c.args.world.lsta.shape.items) cheap) tt
+
+pub reset-requires-2-clause-memo : goal.reset-requires-2-clause-memo
+reset-requires-2-clause-memo g c = projecting_later g.L.Label.parts c.args.qubit true (length c.args.world.lsta.shape.items) c.args.store.now c.reset.new.store c.reset.ensures.keeps.table c.args.memos.now.other c.requires.memos.outcomes.other
+
+pub returns-clause-memos : goal.returns-clause-memos
+returns-clause-memos g c = record {
+  outcomes = record {
+    zero = projecting_later g.L.Label.parts c.args.qubit false (length c.args.world.lsta.shape.items) c.reset.new.store c.reset-2.new.store c.reset-2.ensures.keeps.table c.reset.new.projecting c.in_ok-zero.ensures.memo;
+    other = c.in_ok-other.ensures.memo;
+  };
+  flip = c.in_ok-other.ensures.flip;
+}

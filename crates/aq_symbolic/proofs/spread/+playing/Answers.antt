@@ -2,16 +2,20 @@ use Rattle.std.proofs.Common.{rules, ◌≡◌, ◌<◌, ◌+◌, ◌*◌, ◌�
 use Rattle.std.specs.Vec.{vec_len}
 use Rattle.std.proofs.Math.ListN.{drop_of_length-le}
 use Rattle.std.proofs.lemmas.Iterator.Adapters.{YieldsList-from_vec}
-use Rattle.std.proofs.lemmas.Iterator.Consumers.{YieldsList-turn}
+use Rattle.std.proofs.lemmas.Iterator.Consumers.{YieldsList-turn, YieldsList-end}
 use Rattle.aq_prog.specs.declared.stmt.Stmt.{Stmt}
+use Rattle.aq_prog.specs.declared.stmt.Stmt.TheOpen.{Stmt-F}
 use Rattle.aq_plain.proofs.PlayLaws.{ok_gives, err_gives, weight, weight_of, branch_weight, next_weight}
 use Rattle.aq_store.proofs.StopLemmas.{passed_on}
+use Rattle.aq_symbolic.specs.Memos.{AreMemos}
 use Rattle.aq_symbolic.specs.Moves.{of_branch, of_stmt, of_gate, of_measurement, of_reset, of_assumption}
-use Rattle.aq_symbolic.specs.Playing.{Leaves, Stops}
+use Rattle.aq_symbolic.specs.Playing.{Collects, Leaves, Stops}
+use Rattle.aq_symbolic.specs.declared.kept.World.{World}
 use Rattle.aq_symbolic.proofs.BranchLemmas.{if_leaves, if_stops, leaves_as, stops_as, taken_leaves, taken_stops}
 use Rattle.aq_symbolic.proofs.CallLemmas.{assume_bits, assume_start, assumed_leaves, fits_call, gate_call, if_bits, if_start, measure_bit, measure_qubit, memory_at, next_plays, next_uncut, no_plays, no_uncut, one_plays, one_stmt_plays, reset_qubit, yes_plays, yes_uncut}
-use Rattle.aq_symbolic.proofs.CollectLemmas.{collect_step, stop_at}
+use Rattle.aq_symbolic.proofs.CollectLemmas.{collect_end, collect_none, collect_step, sized_at, stop_at}
 use Rattle.aq_symbolic.proofs.LeadLemmas.{leads_next, leads_out, leads_start, stop_next}
+use Rattle.aq_symbolic.proofs.MemoLemmas.{assume_out, gate_out, if_out, measure_out, memos_in, memos_new, memos_out, ok_always, ok_then, reset_out}
 use Rattle.aq_symbolic.proofs.MoveLemmas.{of_if, assume_move, gate_move, if_move, measure_move, reset_move}
 use Rattle.aq_symbolic.proofs.StopLemmas.{keeps_none, keeps_then}
 use Rattle.aq_symbolic.proofs.spread.+playing.Goals as goal
@@ -67,6 +71,47 @@ play_one-play_branches-requires g t c κs within =
     let yes_free = yes_uncut s m.guard m.yes m.no first.result.now m.is first.ensures c.requires.uncut in
     let no_free = no_uncut s m.guard m.yes m.no second.result.now m.is second.ensures c.requires.uncut in
     search rules
+
+-- the memos of the statement
+
+pub play_one-play_gate-requires-clause-memos : goal.play_one-play_gate-requires-clause-memos
+play_one-play_gate-requires-clause-memos g t c =
+    memos_in g.L.Label.parts g.L.Label.part_count (length c.args.world.lsta.shape.items) c.args.store.now c.args.memos.now c.args.stmt.now (Stmt-F.Gate c.in-Gate.gate) (gate_out c.args.stmt.now c.in-Gate.gate c.in-Gate.is) c.requires.memos
+
+pub play_one-measure-requires-clause-memos : goal.play_one-measure-requires-clause-memos
+play_one-measure-requires-clause-memos g t c =
+    memos_in g.L.Label.parts g.L.Label.part_count (length c.args.world.lsta.shape.items) c.args.store.now c.args.memos.now c.args.stmt.now (Stmt-F.Measure c.in-Measure.qubit c.in-Measure.bit) (measure_out c.args.stmt.now c.in-Measure.qubit c.in-Measure.bit c.in-Measure.is) c.requires.memos
+
+pub play_one-reset-requires-clause-memos : goal.play_one-reset-requires-clause-memos
+play_one-reset-requires-clause-memos g t c =
+    memos_in g.L.Label.parts g.L.Label.part_count (length c.args.world.lsta.shape.items) c.args.store.now c.args.memos.now c.args.stmt.now (Stmt-F.Reset c.in-Reset.qubit) (reset_out c.args.stmt.now c.in-Reset.qubit c.in-Reset.is) c.requires.memos
+
+pub play_one-returns-in-Gate-clause-memos : goal.play_one-returns-in-Gate-clause-memos
+play_one-returns-in-Gate-clause-memos g t c =
+    ok_then c.play_gate.result
+    (memos_out g.L.Label.parts g.L.Label.part_count (length c.args.world.lsta.shape.items) c.play_gate.new.store c.play_gate.new.memos c.args.stmt.now (Stmt-F.Gate c.in-Gate.gate) (gate_out c.args.stmt.now c.in-Gate.gate c.in-Gate.is))
+    c.play_gate.ensures.memos
+
+pub play_one-returns-in-Measure-clause-memos : goal.play_one-returns-in-Measure-clause-memos
+play_one-returns-in-Measure-clause-memos g t c =
+    ok_then c.measure.result
+    (memos_out g.L.Label.parts g.L.Label.part_count (length c.args.world.lsta.shape.items) c.measure.new.store c.measure.new.memos c.args.stmt.now (Stmt-F.Measure c.in-Measure.qubit c.in-Measure.bit) (measure_out c.args.stmt.now c.in-Measure.qubit c.in-Measure.bit c.in-Measure.is))
+    c.measure.ensures.memos
+
+pub play_one-returns-in-Reset-clause-memos : goal.play_one-returns-in-Reset-clause-memos
+play_one-returns-in-Reset-clause-memos g t c =
+    ok_then c.reset.result
+    (memos_out g.L.Label.parts g.L.Label.part_count (length c.args.world.lsta.shape.items) c.reset.new.store c.reset.new.memos c.args.stmt.now (Stmt-F.Reset c.in-Reset.qubit) (reset_out c.args.stmt.now c.in-Reset.qubit c.in-Reset.is))
+    c.reset.ensures.memos
+
+pub play_one-returns-in-Ok-clause-memos : goal.play_one-returns-in-Ok-clause-memos
+play_one-returns-in-Ok-clause-memos g t c =
+    ok_always c.play_branches.result
+    (memos_out g.L.Label.parts g.L.Label.part_count (length c.args.world.lsta.shape.items) c.play_branches.new.store c.args.memos.now c.args.stmt.now (Stmt-F.If c.in-If.guard c.in-If.yes c.in-If.no) (if_out c.args.stmt.now c.in-If.guard c.in-If.yes c.in-If.no c.in-If.is) tt)
+
+pub play_one-returns-in-Ok-assume-clause-memos : goal.play_one-returns-in-Ok-assume-clause-memos
+play_one-returns-in-Ok-assume-clause-memos g t c =
+    memos_out g.L.Label.parts g.L.Label.part_count (length c.args.world.lsta.shape.items) c.args.store.now c.args.memos.now c.args.stmt.now (Stmt-F.Assume c.in-Assume.guard) (assume_out c.args.stmt.now c.in-Assume.guard c.in-Assume.is) tt
 
 pub play_one-returns-in-Gate-clause-ok : goal.play_one-returns-in-Gate-clause-ok
 play_one-returns-in-Gate-clause-ok g t c =
@@ -209,6 +254,9 @@ play_each-play_one-requires g t c κs within =
     let len : vec_len c.args.worlds ≡ length all = search rules in
     let turn = YieldsList-turn (YieldsList-from_vec all given.0 (given.1 ∙ len)) c.loop-world.yielded c.loop-world.world-iterator c.loop-world.yielded_by c.next.result c.next.new.self c.in-Some.world c.in-Some.is c.next.ensures.steps in
     let playable = one_stmt_plays c.args.store.now c.loop-world.store all (length c.loop-world.yielded) c.in-Some.world c.args.stmt.now turn.0 turn.1 c.loop-world.invariant.keeps.table c.requires.playable in
+    let p = c.requires.playable in
+    let here = sized_at p.qubits p.bits c.args.store.now all (length c.loop-world.yielded) c.in-Some.world turn.0 turn.1 p.sized in
+    let memos = subst (λ k. AreMemos g.L.Label.parts g.L.Label.part_count k c.loop-world.store c.loop-world.memos c.args.stmt.now) (sym here.levels) (c.loop-world.invariant.memos p.qubits p.bits p.sized) in
     let paid = c.loop-world.invariant.keeps.paid in
     let less : 5 * weight c.args.stmt.now < t = omega (arith, c.decreases) in
     search rules
@@ -232,6 +280,16 @@ play_each-returns-in_default-clause-err g t c =
     memory_at g.L.Label.parts g.L.Label.part_count (of_stmt c.args.stmt.now) c.args.store.now c.loop-world.store c.play_one.new.store c.args.steps.now c.loop-world.steps c.play_one.new.steps all (length c.loop-world.yielded) c.in-Some.world c.loop-world.list.items c.in_ok-more.more.items turn.0 turn.1
     c.loop-world.invariant.keeps.table c.play_one.ensures.keeps.table c.loop-world.invariant.made c.in_ok-more.ensures.ok
 
+pub play_each-loop-world-init : goal.play_each-loop-world-init
+play_each-loop-world-init g t c =
+    let empty : c.new-list.result.items ≡ [] = search rules in
+    record {
+      keeps = keeps_none c.args.store.now c.args.steps.now c.requires.paid;
+      made = subst (λ (l : List World). Collects g.L.Label.parts g.L.Label.part_count (of_stmt c.args.stmt.now) c.args.store.now c.args.store.now c.args.steps.now c.args.steps.now c.args.worlds.items [] l) (sym empty)
+          (collect_none g.L.Label.parts g.L.Label.part_count (of_stmt c.args.stmt.now) c.args.store.now c.args.steps.now c.args.worlds.items);
+      memos = λ n m s. memos_new g.L.Label.parts g.L.Label.part_count n c.args.store.now c.new-memos.result c.new-memos.ensures c.args.stmt.now;
+    }
+
 pub play_each-loop-world-preserved : goal.play_each-loop-world-preserved
 play_each-loop-world-preserved g t c =
     let all = c.args.worlds.items in
@@ -242,7 +300,21 @@ play_each-loop-world-preserved g t c =
       keeps = keeps_then c.args.store.now c.loop-world.store c.play_one.new.store c.args.steps.now c.loop-world.steps c.play_one.new.steps c.loop-world.invariant.keeps c.play_one.ensures.keeps;
       made = collect_step g.L.Label.parts g.L.Label.part_count (of_stmt c.args.stmt.now) c.args.store.now c.loop-world.store c.play_one.new.store c.args.steps.now c.loop-world.steps c.play_one.new.steps all (length c.loop-world.yielded) _ c.in-Some.world c.loop-world.list.items c.in_ok-more.more.items _
           (length-append c.loop-world.yielded (c.in-Some.world ∷ [])) c.in-Ok.ensures.items turn.0 turn.1 c.loop-world.invariant.keeps.table c.play_one.ensures.keeps.table c.loop-world.invariant.made c.in_ok-more.ensures.ok;
+      memos = λ n m s.
+          let here = sized_at n m c.args.store.now all (length c.loop-world.yielded) c.in-Some.world turn.0 turn.1 s in
+          subst (λ k. AreMemos g.L.Label.parts g.L.Label.part_count k c.play_one.new.store c.play_one.new.memos c.args.stmt.now) here.levels c.in_ok-more.ensures.memos;
     }
+
+pub play_each-returns-in_err-more-clause-keeps : goal.play_each-returns-in_err-more-clause-keeps
+play_each-returns-in_err-more-clause-keeps g t c = keeps_then c.args.store.now c.loop-world.store c.play_one.new.store c.args.steps.now c.loop-world.steps c.play_one.new.steps c.loop-world.invariant.keeps c.play_one.ensures.keeps
+
+pub play_each-returns-clause-ok : goal.play_each-returns-clause-ok
+play_each-returns-clause-ok g t c =
+    let all = c.args.worlds.items in
+    let given = c.into_iter-world-iterator.ensures.into_iter_gives in
+    let len : vec_len c.args.worlds ≡ length all = search rules in
+    let end = YieldsList-end (YieldsList-from_vec all given.0 (given.1 ∙ len)) c.loop-world.yielded c.loop-world.world-iterator c.loop-world.yielded_by c.next.result c.next.new.self c.in-None.is c.next.ensures.steps in
+    collect_end g.L.Label.parts g.L.Label.part_count (of_stmt c.args.stmt.now) c.args.store.now c.loop-world.store c.args.steps.now c.loop-world.steps all c.loop-world.list.items (length c.loop-world.yielded) end.1 c.loop-world.invariant.made
 
 -- ---- statements in order
 

@@ -1,8 +1,10 @@
-use Rattle.std.proofs.Common.{◌+◌, ◌*◌, drop, length, take}
+use Rattle.std.proofs.Common.{ℕ, ◌+◌, ◌*◌, drop, length, take}
 use Rattle.aq_plain.proofs.PlayLaws.{weight, weight_of}
+use Rattle.aq_symbolic.specs.Memos.{AreMemos}
 use Rattle.aq_symbolic.specs.Moves.{of_branch, of_stmt}
 use Rattle.aq_symbolic.specs.Playing.{Collects}
 use Rattle.aq_symbolic.specs.Steps.{Keeps}
+use Rattle.aq_symbolic.specs.Worlds.{AreSized}
 use Rattle.aq_symbolic.proofs.LeadLemmas.{LeadsOn}
 use Rattle.aq_symbolic.proofs.spread.+playing.Given as goal
 
@@ -18,6 +20,7 @@ abbrev pub invariant-play_each-loop-world : goal.invariant-play_each-loop-world
 invariant-play_each-loop-world g l = record {
   keeps : Keeps l.fn.store l.store l.fn.steps l.steps;
   made : Collects g.L.Label.parts g.L.Label.part_count (of_stmt l.stmt) l.fn.store l.store l.fn.steps l.steps l.fn.worlds.items (take (length l.yielded) l.fn.worlds.items) l.list.items;
+  memos : (n m : ℕ) → AreSized n m l.fn.store l.fn.worlds.items → AreMemos g.L.Label.parts g.L.Label.part_count n l.store l.memos l.stmt;
 }
 
 abbrev pub invariant-play_branches-loop-world : goal.invariant-play_branches-loop-world

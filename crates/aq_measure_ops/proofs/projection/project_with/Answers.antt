@@ -8,12 +8,12 @@ use Rattle.aq_store.proofs.TableLemmas.{HasShape-Extends}
 use Rattle.aq_store.specs.Words.{words}
 use Rattle.aq_store.proofs.StopLemmas.{GivesUp-within, passed_on}
 use Rattle.aq_measure_ops.specs.Budget.{total}
-use Rattle.aq_measure_ops.specs.Projection.{Projects}
+use Rattle.aq_measure_ops.specs.Projection.{IsMemo, Projects}
 use Rattle.aq_measure_ops.proofs.BudgetLemmas.{budget, copy_steps}
-use Rattle.aq_measure_ops.proofs.LevelBounds.{root_bound}
+use Rattle.aq_measure_ops.proofs.LevelBounds.{root_any}
 use Rattle.aq_measure_ops.proofs.PaddingLemmas.{wider_refl}
-use Rattle.aq_measure_ops.proofs.ProjectionLemmas.{positive, projected, IsMemo-none}
-use Rattle.aq_measure_ops.proofs.projection.project.Goals as goal
+use Rattle.aq_measure_ops.proofs.ProjectionLemmas.{positive, projected, projecting_later}
+use Rattle.aq_measure_ops.proofs.projection.project_with.Goals as goal
 
 pub blank_from-requires-clause-some : goal.blank_from-requires-clause-some
 blank_from-requires-clause-some g c =
@@ -25,7 +25,11 @@ project_at-requires-clause-shape g c =
     (subst (λ s. HasShape c.args.store.now s c.args.lsta.now.root) (sym c.as_slice-shape.ensures.value) c.requires.fits)
 
 pub project_at-requires-clause-memo : goal.project_at-requires-clause-memo
-project_at-requires-clause-memo g c = IsMemo-none g.L.Label.parts c.args.outcome c.as_slice-shape.result.now c.args.qubit c.blank_from.new.store (memo_at c.new-memo.result) c.new-memo.ensures
+project_at-requires-clause-memo g c = subst (λ n. IsMemo g.L.Label.parts c.args.qubit c.args.outcome n c.blank_from.new.store (memo_at c.args.projecting.now.nodes)) (sym (ap length c.as_slice-shape.ensures.value))
+    (projecting_later g.L.Label.parts c.args.qubit c.args.outcome (length c.args.lsta.now.shape.items) c.args.store.now c.blank_from.new.store c.blank_from.ensures.keeps c.args.projecting.now c.requires.memo)
+
+pub returns-clause-memo : goal.returns-clause-memo
+returns-clause-memo g c = subst (λ n. IsMemo g.L.Label.parts c.args.qubit c.args.outcome n c.project_at.new.store (memo_at c.project_at.new.memo)) (ap length c.as_slice-shape.ensures.value) c.in_ok-root.ensures.memo
 
 pub returns-clause-projected : goal.returns-clause-projected
 returns-clause-projected g c =
@@ -45,8 +49,7 @@ returns-in_err-root-clause-steps g c =
     let most = copy_steps c.as_slice-shape.result.now c.args.lsta.now.shape.items c.as_slice-shape.ensures.value
     (positive c.args.store.now c.as_slice-shape.result.now c.args.lsta.now.root fits) (c.args.qubit + 1) in
     let here = HasShape-Extends c.args.store.now c.blank_from.new.store c.blank_from.ensures.keeps c.as_slice-shape.result.now c.args.lsta.now.root fits in
-    let r = root_bound c.blank_from.new.store (is_done (memo_at c.new-memo.result)) (λ i. ap is_some
-    (c.new-memo.ensures i)) c.as_slice-shape.result.now c.as_slice-shape.result.now c.args.lsta.now.root (wider_refl c.as_slice-shape.result.now) here in
+    let r = root_any c.blank_from.new.store (is_done (memo_at c.args.projecting.now.nodes)) c.as_slice-shape.result.now c.as_slice-shape.result.now c.args.lsta.now.root (wider_refl c.as_slice-shape.result.now) here in
     let h = c.project_at.ensures.cheap r.0 r.1 in
     omega (arith, most, c.blank_from.ensures.steps, h, r.2)
 
@@ -56,8 +59,7 @@ returns-in_default-clause-steps g c =
     let most = copy_steps c.as_slice-shape.result.now c.args.lsta.now.shape.items c.as_slice-shape.ensures.value
     (positive c.args.store.now c.as_slice-shape.result.now c.args.lsta.now.root fits) (c.args.qubit + 1) in
     let here = HasShape-Extends c.args.store.now c.blank_from.new.store c.blank_from.ensures.keeps c.as_slice-shape.result.now c.args.lsta.now.root fits in
-    let r = root_bound c.blank_from.new.store (is_done (memo_at c.new-memo.result)) (λ i. ap is_some
-    (c.new-memo.ensures i)) c.as_slice-shape.result.now c.as_slice-shape.result.now c.args.lsta.now.root (wider_refl c.as_slice-shape.result.now) here in
+    let r = root_any c.blank_from.new.store (is_done (memo_at c.args.projecting.now.nodes)) c.as_slice-shape.result.now c.as_slice-shape.result.now c.args.lsta.now.root (wider_refl c.as_slice-shape.result.now) here in
     let h = c.project_at.ensures.cheap r.0 r.1 in
     omega (arith, most, c.blank_from.ensures.steps, h, r.2)
 
@@ -67,8 +69,7 @@ returns-clause-steps g c =
     let most = copy_steps c.as_slice-shape.result.now c.args.lsta.now.shape.items c.as_slice-shape.ensures.value
     (positive c.args.store.now c.as_slice-shape.result.now c.args.lsta.now.root fits) (c.args.qubit + 1) in
     let here = HasShape-Extends c.args.store.now c.blank_from.new.store c.blank_from.ensures.keeps c.as_slice-shape.result.now c.args.lsta.now.root fits in
-    let r = root_bound c.blank_from.new.store (is_done (memo_at c.new-memo.result)) (λ i. ap is_some
-    (c.new-memo.ensures i)) c.as_slice-shape.result.now c.as_slice-shape.result.now c.args.lsta.now.root (wider_refl c.as_slice-shape.result.now) here in
+    let r = root_any c.blank_from.new.store (is_done (memo_at c.args.projecting.now.nodes)) c.as_slice-shape.result.now c.as_slice-shape.result.now c.args.lsta.now.root (wider_refl c.as_slice-shape.result.now) here in
     let h = c.project_at.ensures.cheap r.0 r.1 in
     omega (arith, most, c.blank_from.ensures.steps, h, r.2)
 
@@ -94,9 +95,8 @@ returns-in_err-root-clause-refused g c =
     let most = copy_steps c.as_slice-shape.result.now c.args.lsta.now.shape.items c.as_slice-shape.ensures.value
     (positive c.args.store.now c.as_slice-shape.result.now c.args.lsta.now.root fits) (c.args.qubit + 1) in
     let here = HasShape-Extends c.args.store.now c.blank_from.new.store c.blank_from.ensures.keeps c.as_slice-shape.result.now c.args.lsta.now.root fits in
-    let r = root_bound c.blank_from.new.store (is_done (memo_at c.new-memo.result)) (λ i. ap is_some
-    (c.new-memo.ensures i)) c.as_slice-shape.result.now c.as_slice-shape.result.now c.args.lsta.now.root (wider_refl c.as_slice-shape.result.now) here in
+    let r = root_any c.blank_from.new.store (is_done (memo_at c.args.projecting.now.nodes)) c.as_slice-shape.result.now c.as_slice-shape.result.now c.args.lsta.now.root (wider_refl c.as_slice-shape.result.now) here in
     passed_on _ c.from_residual-in_err-root.result c.in_err-root.field-0.0 c.from_residual-in_err-root.ensures
-    (GivesUp-within c.args.steps.now c.blank_from.new.steps c.project_at.new.steps (owed (prices_of c.as_slice-shape.result.now) (is_done (memo_at c.new-memo.result)) r.0)
+    (GivesUp-within c.args.steps.now c.blank_from.new.steps c.project_at.new.steps (owed (prices_of c.as_slice-shape.result.now) (is_done (memo_at c.args.projecting.now.nodes)) r.0)
     (2 * words c.args.lsta.now.shape.items * 2 ^ (length c.args.lsta.now.shape.items + 1)) _ c.blank_from.ensures.limit (omega (arith, most, c.blank_from.ensures.steps, r.2))
     (c.in_err-root.ensures.refused r.0 r.1))
