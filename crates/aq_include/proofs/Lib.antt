@@ -8,6 +8,7 @@ pub mod CandidateLemmas
 pub mod StepLemmas
 pub mod BudgetLemmas
 pub mod EndLemmas
+pub mod StandLemmas
 pub mod SearchLemmas
 pub mod TurnLemmas
 pub mod CertLemmas
