@@ -107,7 +107,7 @@ module _ {L : Type 0} (table : List (Node L)) where
 
     -- the macro under a choice stands in the next levels
     pub step-stands : (k c : ℕ) (m to : Macro) → k < length left.shape.items → IsOfLevel table (drop k left.shape.items) (goal_rest goals k) m → StandsAt table left goals k m
-        → IsBack table c (goal_rest goals k) m to → StandsAt table left goals (k + 1) to
+        → IsBack table c m to → StandsAt table left goals (k + 1) to
     step-stands k c m to less h s back = record {
       domain = λ y listed.
           let f = back.domain y listed in

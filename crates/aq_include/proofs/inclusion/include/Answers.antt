@@ -5,7 +5,7 @@ use Rattle.aq_include.specs.Costs.{IsCause, weight, size}
 use Rattle.aq_include.specs.Answers.{IsFresh, StopsFor, search_budget}
 use Rattle.aq_include.specs.Search.{Finds, GrowsWith}
 use Rattle.aq_include.proofs.Passed.{passed}
-use Rattle.aq_include.proofs.TurnLemmas.{takes-within, cause-within}
+use Rattle.aq_include.proofs.CostLemmas.{takes-within, cause-within}
 use Rattle.aq_include.proofs.LeastLemmas.{least-escape}
 use Rattle.aq_include.proofs.SizeLemmas.{cert-paid}
 use Rattle.aq_include.proofs.IncludeLemmas.{whole-root, root-level, fresh-table, certified, wide-inclusion, budget-within, root-stands, none-stand}

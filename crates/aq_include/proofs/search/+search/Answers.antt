@@ -20,7 +20,7 @@ follow-returns-in_err-stepped-clause-wide g t c =
 
 pub follow-visit-requires : goal.follow-visit-requires
 follow-visit-requires g t c κs within =
-    let here = stepped-level c.args.store.now c.args.left.now.shape.items c.args.goals.now c.args.level c.args.choice c.args.here.now c.in_ok-stepped.stepped c.requires.level c.requires.here c.in_ok-stepped.ensures.stepped in
+    let here = stepped-level c.args.store.now g.L.Label.parts c.args.left.now.shape.items c.args.goals.now c.args.level c.args.choice c.args.here.now c.in_ok-stepped.stepped c.requires.level c.requires.here c.in_ok-stepped.ensures.stepped in
     let stands = step-stands c.args.store.now c.args.left.now c.args.goals.now c.args.level c.args.choice c.args.here.now c.in_ok-stepped.stepped.to c.requires.level c.requires.here c.requires.stands c.in_ok-stepped.ensures.stepped.back in
     search rules
 

@@ -9,7 +9,8 @@ use Rattle.aq_include.proofs.Passed.{passed}
 use Rattle.aq_include.proofs.SizeLemmas.{size-push}
 use Rattle.aq_include.proofs.SearchLemmas.{table-end}
 use Rattle.aq_include.proofs.StandLemmas.{stand-push}
-use Rattle.aq_include.proofs.TurnLemmas.{ends-cheap, takes-within, cause-within, least-end}
+use Rattle.aq_include.proofs.TurnLemmas.{ends-cheap, least-end}
+use Rattle.aq_include.proofs.CostLemmas.{takes-within, cause-within}
 use Rattle.aq_include.proofs.search.finish.Goals as goal
 
 pub returns-in_err-end-clause-takes : goal.returns-in_err-end-clause-takes
