@@ -15,9 +15,11 @@ ghost use Rattle.aq_include.specs.Steps.{opened_children_of, IsOpened};
 ghost use Rattle.aq_include.specs.Candidates.{AreChildren, IsCandidateAt, AreOfRel, AreOfRels, HasRel, IsStepped};
 ghost use Rattle.aq_include.specs.Candidates.{Thins, IsOwnOf, Suffice};
 
-use crate::pay::pay;
 use crate::own::{Own, find_own};
-use crate::places::{Opened, children, open_pairs, pair_children, same_pairs, tidy_pairs, tidy_places};
+use crate::pay::pay;
+use crate::places::{
+    Opened, children, open_pairs, pair_children, same_pairs, tidy_pairs, tidy_places,
+};
 use aq_cert::{Macro, Rel};
 use aq_label::Label;
 use aq_store::{Lsta, Steps, Stop, Store};
