@@ -294,7 +294,8 @@ fn thin(alloc: Global, list: Vec<Candidate>) -> Result<Vec<Candidate>, AllocErro
     Ok(kept)
 }
 
-/// The relations under a choice, without repeats. Where one leads to the same nodes on both sides, it is that one alone.
+/// The relations under a choice, without repeats. Where one leads to the same nodes on both sides, it is that one
+/// alone.
 fn step_each<L: Label>(
     store: &Store<L>,
     alloc: Global,
