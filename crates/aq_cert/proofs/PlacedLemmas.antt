@@ -1,22 +1,22 @@
 -- Macros over nodes become macros over places one by one.
-use Rattle.std.proofs.Common.{◌≡◌, ℕ, zero, suc, ◌+◌, ◌<◌, ◌≤◌, inl, inr, List, [], ◌∷◌, ◌++◌, length, take, get_or, slice_get, Some, Result, Ok, Err, IfOk, Vec, refl, sym, ap, subst, ◌∙◌, arith}
+use Rattle.std.proofs.Common.{◌≡◌, ℕ, zero, suc, ◌+◌, ◌<◌, ◌≤◌, inl, inr, List, [], ◌∷◌, ◌++◌, length, take, get_or, slice_get, None, Some, Contains, Result, Ok, Err, IfOk, Vec, refl, sym, ap, subst, ◌∙◌, arith}
 use Rattle.std.specs.List.{AllZip}
 use Rattle.std.specs.declared.alloc.Global.{Global}
-use Rattle.std.proofs.lemmas.List.{take_more}
+use Rattle.std.proofs.lemmas.List.{take_more, get_or_default}
 use Rattle.std.proofs.lemmas.List.Elements.{AllZip-push, all_zip_more}
 use Rattle.std.proofs.lemmas.Bool.{cases_lt}
 use Rattle.std.proofs.lemmas.Option.{slice_get-get_or, slice_get_within}
 use Rattle.aq_store.specs.declared.node.Node.{Node}
 use Rattle.aq_store.specs.declared.lsta.Lsta.{Lsta}
 use Rattle.aq_store.specs.Levels.{levels_of, lists_of}
-use Rattle.aq_store.proofs.TableLemmas.{slice_get-push}
+use Rattle.aq_store.proofs.TableLemmas.{slice_get-push, slice_get-some}
 use Rattle.aq_cert.specs.declared.cert.Rel.{Rel}
 use Rattle.aq_cert.specs.declared.cert.Macro.{Macro}
 use Rattle.aq_cert.specs.declared.index.Index.{Index}
-use Rattle.aq_cert.specs.Rows.{list_of, row_at}
+use Rattle.aq_cert.specs.Rows.{item_of, item_at, list_of, row_at}
 use Rattle.aq_cert.specs.Goals.{goal_levels}
 use Rattle.aq_cert.specs.Valid.{left_level, goal_level}
-use Rattle.aq_cert.specs.Placed.{IsAt, IsPairAt, IsIndexOf, IsPlacedRel, IsPlacedMacro, IsFound, IsPairFound, IsRelFound, IsMacroFound, lists_in, AreIndexes, ArePlaced, AreGoalLevels}
+use Rattle.aq_cert.specs.Placed.{IsAt, IsPairAt, IsIndexOf, IsPlacedRel, IsPlacedMacro, IsFound, IsPairFound, IsRelFound, IsMacroFound, HasPlace, HasRelPlaces, HasMacroPlaces, StandsIn, StandsAt, lists_in, AreIndexes, ArePlaced, AreGoalLevels}
 
 module _ {X : Type 0} (R : X → X → Type 0) where
   -- one item more
@@ -39,6 +39,10 @@ pub if_ok-map : {T E : Type 0} (P Q : T → Type 0) → ((x : T) → P x → Q x
 if_ok-map P Q f (Ok x) h = f x h
 if_ok-map P Q f (Err e) h = h
 
+-- an index of all of a level has each of its nodes
+pub index-whole : (level : List ℕ) (index : Index) (n : ℕ) → length level ≤ n → ((k : ℕ) → k < n → HasPlace index (get_or level k 0)) → (node : ℕ) → Contains level node → HasPlace index node
+index-whole level index n all f node h = subst (HasPlace index) (get_or_default level h.0 0 node h.1 ∙ h.2) (f h.0 (omega (arith, h.1)))
+
 -- a list of levels at a level
 lists-get : (vs : List (Vec ℕ Global)) (k : ℕ) (v : Vec ℕ Global) → slice_get vs k ≡ Some v → row_at (lists_of vs) k ≡ v.items
 lists-get [] k v e = cc
@@ -49,6 +53,16 @@ pub index-at : (vs : List (Vec ℕ Global)) (k : ℕ) (v : Vec ℕ Global) (node
     → IfOk r (λ index. IsIndexOf nodes index) → IfOk r (λ index. IsIndexOf (row_at (lists_of vs) k) index)
 index-at vs k v nodes r here is h = if_ok-map (λ index. IsIndexOf nodes index) (λ index. IsIndexOf (row_at (lists_of vs) k) index)
     (λ index i. subst (λ l. IsIndexOf l index) (is ∙ sym (lists-get vs k v here)) i) r h
+
+no-list : (vs : List (Vec ℕ Global)) (k : ℕ) → slice_get vs k ≡ None → row_at (lists_of vs) k ≡ []
+no-list [] k e = refl
+no-list (w ∷ vs) zero e = cc
+no-list (w ∷ vs) (suc k) e = no-list vs k e
+
+pub index-absent : (vs : List (Vec ℕ Global)) (k : ℕ) (nodes : List ℕ) {E : Type 0} (r : Result Index E) → slice_get vs k ≡ None → nodes ≡ []
+    → IfOk r (λ index. IsIndexOf nodes index) → IfOk r (λ index. IsIndexOf (row_at (lists_of vs) k) index)
+index-absent vs k nodes r past is h = if_ok-map (λ index. IsIndexOf nodes index) (λ index. IsIndexOf (row_at (lists_of vs) k) index)
+    (λ index i. subst (λ l. IsIndexOf l index) (is ∙ sym (no-list vs k past)) i) r h
 
 -- one goal's index more
 pub indexes-more : (all : List (Vec (Vec ℕ Global) Global)) (level : ℕ) (indexes new : List Index) (i : ℕ) (v : Vec (Vec ℕ Global) Global) (levels : List (Vec ℕ Global)) (index : Index)
@@ -79,6 +93,19 @@ module _ (left : Index) (goals : List Index) (nodes : List ℕ) (all : List (Vec
   macro-placed m n h = record {
     domain = all_zip-map (IsFound left) (IsAt nodes) (λ x y f. l.found x y f) m.domain n.domain h.domain;
     rels = all_zip-map (IsRelFound left goals) (IsPlacedRel (length all) nodes (λ g. row_at (lists_in (slice_get all g)) level)) rel-placed m.rels n.rels h.rels;
+  }
+
+  -- where a macro's nodes stand in the levels, the indexes have places for them
+  pub places-there : (m : Macro) → StandsIn (length all) nodes (λ g. row_at (lists_in (slice_get all g)) level) m → HasMacroPlaces left goals m
+  places-there m h = record {
+    domain = λ x listed. l.complete x (h.domain x listed);
+    rels = λ k rel here.
+        let r = slice_get-some goals rel.goal (omega (arith, h.there k rel here, a.count)) in
+        record {
+          right = r.0;
+          listed = r.1;
+          pairs = λ p listed. (l.complete p.0 (h.pairs k rel p here listed).0, (a.each rel.goal r.0 r.1).complete p.1 (h.pairs k rel p here listed).1);
+        };
   }
 
 -- the indexes that a row was written with
@@ -138,6 +165,20 @@ module _ {L : Type 0} (table : List (Node L)) (left : Lsta) (goals : List Lsta) 
                       (subst (λ z. AllZip (IsPairAt (row_at (lists_of lefts) level) (row_at z level)) r.pairs s.pairs) (a.each s.goal) q.pairs);
                 }) m.rels n.rels p.rels;
           }) xs ys h
+
+  -- the levels that were written down
+  pub stands-moved : (lefts : List (Vec ℕ Global)) (all : List (Vec (Vec ℕ Global) Global)) (level : ℕ) (m : Macro) → lists_of lefts ≡ levels_of table left → AreGoalLevels table goals all
+      → StandsAt table left goals level m → StandsIn (length all) (row_at (lists_of lefts) level) (λ g. row_at (lists_in (slice_get all g)) level) m
+  stands-moved lefts all level m l a h = record {
+    domain = λ x listed. subst (λ z. Contains (row_at z level) x) (sym l) (h.domain x listed);
+    there = λ k rel here. subst (λ z. rel.goal < z) (sym a.count) (h.there k rel here);
+    pairs = λ k rel p here listed.
+        let s = h.pairs k rel p here listed in
+        (subst (λ z. Contains (row_at z level) p.0) (sym l) s.0, subst (λ z. Contains (row_at z level) p.1) (sym (a.each rel.goal)) s.1);
+  }
+
+  pub at-row : (rows : List (List Macro)) (level i : ℕ) (row given : List Macro) (m : Macro) → slice_get rows level ≡ Some row → given ≡ row → slice_get given i ≡ Some m → item_at rows level i ≡ Some m
+  at-row rows level i row given m here same at = ap (λ o. item_of o i) here ∙ subst (λ (l : List Macro). slice_get l i ≡ Some m) same at
 
   pub placed-all : (macros rows : List (List Macro)) (n : ℕ) → length macros ≤ n → n ≤ length macros → length rows ≡ n → ((k : ℕ) → k < n → IsPlacedAt k (row_at macros k) (row_at rows k))
       → ArePlaced table left goals macros rows

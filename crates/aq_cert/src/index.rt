@@ -1,9 +1,9 @@
 //! Where nodes stand in a level.
-ghost use Rattle.std.specs.Prelude.{◌≡◌, IfOk, nat_eq};
+ghost use Rattle.std.specs.Prelude.{◌≡◌, Some, IfOk, nat_eq};
 ghost use Rattle.indexmap.specs.IndexMap.{get};
 ghost use Rattle.aq_store.specs.Levels.{lists_of};
 ghost use Rattle.aq_cert.specs.Rows.{row_at};
-ghost use Rattle.aq_cert.specs.Placed.{IsIndexOf};
+ghost use Rattle.aq_cert.specs.Placed.{IsIndexOf, HasPlace};
 
 use aq_store::Id;
 use indexmap::IndexMap;
@@ -40,16 +40,18 @@ impl Index {
     {
         match levels.get(level) {
             Some(nodes) => Index::of(alloc, nodes.as_slice()),
-            None => Ok(Index {
-                at: IndexMap::new(alloc),
-            }),
+            None => Index::of(alloc, &[]),
         }
     }
 
-    /// The place of a node.
-    pub(crate) fn find(&self, node: u32) -> Option<u32>
-        ensures { result ≡ get nat_eq self.now.at node }
+    /// The place of a node that is there.
+    pub(crate) fn place_of(&self, node: u32) -> u32
+        requires { HasPlace self.now node }
+        ensures { get nat_eq self.now.at node ≡ Some result }
     {
-        self.at.get(&node).copied()
+        match self.at.get(&node) {
+            Some(place) => *place,
+            None => unreachable!(),
+        }
     }
 }

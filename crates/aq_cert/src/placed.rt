@@ -1,5 +1,5 @@
 //! From macros over nodes to macros over places.
-ghost use Rattle.std.specs.Prelude.{◌≡◌, ◌<◌, ℕ, List, length, slice_get, Some, IfOk};
+ghost use Rattle.std.specs.Prelude.{◌≡◌, ◌<◌, ℕ, List, length, slice_get, Some, IfOk, Contains};
 ghost use Rattle.std.specs.List.{AllZip};
 ghost use Rattle.aq_store.specs.Levels.{lists_of};
 ghost use Rattle.aq_cert.specs.Rows.{row_at};
@@ -7,6 +7,9 @@ ghost use Rattle.aq_store.specs.declared.lsta.Lsta.{Lsta};
 ghost use Rattle.aq_cert.specs.Goals.{FitTogether};
 ghost use Rattle.aq_cert.specs.Placed.{IsFound, IsPairFound, IsRelFound, IsMacroFound, lists_in};
 ghost use Rattle.aq_cert.specs.Placed.{AreIndexes, AreGoalLevels, IsPlacedMacro, ArePlaced};
+ghost use Rattle.aq_cert.specs.Placed.{HasPlace, HasRelPlaces, HasMacroPlaces, StandsIn, AllStand};
+ghost use Rattle.aq_cert.specs.declared.cert.Rel.{Rel};
+ghost use Rattle.aq_cert.specs.declared.cert.Macro.{Macro};
 
 use crate::cert::{Macro, Rel};
 use crate::index::Index;
@@ -17,14 +20,12 @@ use std::alloc::{AllocError, Global};
 
 /// The places of nodes.
 fn place_nodes(alloc: Global, index: &Index, nodes: &[u32]) -> Result<Items<u32>, AllocError>
+    requires { (node : ℕ) → Contains nodes.now node → HasPlace index.now node }
     ensures { IfOk result (λ places. AllZip (IsFound index.now) nodes.now places) }
 {
     let mut places = Items::new(alloc);
     for node in nodes {
-        let Some(place) = index.find(*node) else {
-            return Err(AllocError);
-        };
-        places.push(place)?;
+        places.push(index.place_of(*node))?;
     }
     Ok(places)
 }
@@ -36,28 +37,22 @@ fn place_pairs(
     right: &Index,
     nodes: &[(u32, u32)],
 ) -> Result<Items<(u32, u32)>, AllocError>
+    requires { (p : ℕ × ℕ) → Contains nodes.now p → HasPlace left.now p.0 × HasPlace right.now p.1 }
     ensures { IfOk result (λ places. AllZip (IsPairFound left.now right.now) nodes.now places) }
 {
     let mut places = Items::new(alloc);
     for (first, second) in nodes {
-        let Some(left_place) = left.find(*first) else {
-            return Err(AllocError);
-        };
-        let Some(right_place) = right.find(*second) else {
-            return Err(AllocError);
-        };
-        places.push((left_place, right_place))?;
+        places.push((left.place_of(*first), right.place_of(*second)))?;
     }
     Ok(places)
 }
 
 /// A relation with places.
 fn place_rel(alloc: Global, left: &Index, goals: &[Index], rel: &Rel) -> Result<Rel, AllocError>
+    requires { HasRelPlaces left.now goals.now rel.now }
     ensures { IfOk result (λ s. IsRelFound left.now goals.now rel.now s) }
 {
-    let Some(right) = goals.get(rel.goal as usize) else {
-        return Err(AllocError);
-    };
+    let right = &goals[rel.goal as usize];
     let pairs = place_pairs(alloc, left, right, rel.pairs.as_slice())?;
     Ok(Rel {
         goal: rel.goal,
@@ -72,6 +67,7 @@ fn place_rels(
     goals: &[Index],
     rels: &[Rel],
 ) -> Result<Items<Rel>, AllocError>
+    requires { (k : ℕ) (rel : Rel) → slice_get rels.now k ≡ Some rel → HasRelPlaces left.now goals.now rel }
     ensures { IfOk result (λ list. AllZip (IsRelFound left.now goals.now) rels.now list) }
 {
     let mut list = Items::new(alloc);
@@ -88,6 +84,7 @@ fn place_macro(
     goals: &[Index],
     here: &Macro,
 ) -> Result<Macro, AllocError>
+    requires { HasMacroPlaces left.now goals.now here.now }
     ensures { IfOk result (λ n. IsMacroFound left.now goals.now here.now n) }
 {
     let domain = place_nodes(alloc, left, here.domain.as_slice())?;
@@ -102,6 +99,7 @@ fn place_row(
     goals: &[Index],
     row: &[Macro],
 ) -> Result<Items<Macro>, AllocError>
+    requires { (i : ℕ) (m : Macro) → slice_get row.now i ≡ Some m → HasMacroPlaces left.now goals.now m }
     ensures { IfOk result (λ list. AllZip (IsMacroFound left.now goals.now) row.now list) }
 {
     let mut list = Items::new(alloc);
@@ -130,6 +128,8 @@ fn place_level(
     level: usize,
     row: &[Macro],
 ) -> Result<Items<Macro>, AllocError>
+    requires { (i : ℕ) (m : Macro) → slice_get row.now i ≡ Some m → StandsIn (length goals.now) (row_at (lists_of
+        left.now) level) (λ g. row_at (lists_in (slice_get goals.now g)) level) m }
     ensures { IfOk result (λ list. AllZip (IsPlacedMacro (length goals.now) (row_at (lists_of left.now) level) (λ g.
         row_at (lists_in (slice_get goals.now g)) level)) row.now list) }
 {
@@ -155,8 +155,7 @@ fn goal_levels<L: Label>(
 }
 
 /// The same macros with places in place of nodes, each row by the level of its number. The left and the goals fit the
-/// store. It gives up for want of memory, and also where a goal isn't there or a node isn't in its level. A search that
-/// goes from the roots to children meets neither, but no contract says so yet.
+/// store, and each node stands in the level of its row. It gives up only for want of memory.
 pub fn with_places<L: Label>(
     store: &Store<L>,
     alloc: Global,
@@ -164,7 +163,8 @@ pub fn with_places<L: Label>(
     goals: &[Lsta],
     macros: &[Items<Macro>],
 ) -> Result<Items<Items<Macro>>, AllocError>
-    requires { FitTogether store.now left.now goals.now }
+    requires fits { FitTogether store.now left.now goals.now }
+    requires stand { AllStand store.now left.now goals.now macros.now }
     ensures { IfOk result (λ rows. ArePlaced store.now left.now goals.now macros.now rows) }
 {
     let left_levels = store.levels(left)?;

@@ -16,7 +16,8 @@ use Rattle.aq_cert.specs.Macros.{IsOfLevel, IsZeroOn, IsRelated}
 use Rattle.aq_cert.specs.Held.{IsHeldBy, IsHeld}
 use Rattle.aq_cert.proofs.StepLemmas.{zero-left, zero-right, append-split, scaled-append, children, amplitudes-step}
 use Rattle.aq_cert.proofs.HeldLemmas.{IsBelow}
-use Rattle.aq_include.specs.Steps.{IsChild, IsOnly, IsBack}
+use Rattle.aq_include.specs.Steps.{IsChild, IsOnly, IsBack, Keeps, pair_children_of}
+use Rattle.aq_include.proofs.ChildLemmas.{child-of}
 
 half : (a b : ℕ) → a + a ≡ b + b → a ≡ b
 half a b e = omega arith
@@ -89,28 +90,29 @@ module _ {L : Type 0} (parts : L → List Amplitude) (count : ℕ) (all_parts : 
     one-more [] k e = absurd (omega arith)
     one-more (x ∷ xs) k e = (x, xs, refl)
 
-    -- what a relation holds of a word, a relation under the choice holds of what is left of it
-    by-rel : (c n : ℕ) (left : List ℕ) (rest below : ℕ → List ℕ) (m to : Macro) → c < n → IsBelow rest below → IsOfLevel table (n ∷ left) rest m → IsBack table c rest m to → (word : List ℕ)
+    -- the children of a relation's pairs relate what is left of the words
+    children-related : (c n k : ℕ) (left later : List ℕ) (rel : Rel) (word other : List ℕ) → c < n
+        → ((p : ℕ × ℕ) → Contains rel.pairs p → HasShape table (n ∷ left) p.0 × HasShape table (k ∷ later) p.1) → (e : ℕ) → e < k
+        → IsRelated parts table rel.pairs (c ∷ word) (e ∷ other) → IsRelated parts table (pair_children_of table c e rel.pairs) word other
+    children-related c n k left later rel word other less shapes e less_k related =
+        let to : Rel = record { goal = rel.goal; pairs = pair_children_of table c e rel.pairs } in
+        related-back c n k left later rel to word other less shapes e less_k
+        (record { same_goal = refl; only = λ q listed. child-of table c e rel.pairs q listed }) related
+
+    by-rel : (c n : ℕ) (left : List ℕ) (rest below : ℕ → List ℕ) (m to : Macro) → c < n → IsOfLevel table (n ∷ left) rest m → Keeps parts table c left rest below m to → (word : List ℕ) → IsWord left word
         → (number : ℕ) (rel : Rel) → slice_get m.rels number ≡ Some rel → (k : ℕ) (later : List ℕ) → rest rel.goal ≡ k ∷ later → (other : List ℕ) → IsWord (k ∷ later) other
         → IsRelated parts table rel.pairs (c ∷ word) other → IsHeldBy parts table below to word
-    by-rel c n left rest below m to less under level back word number rel here k later s [] is_word related = absurd is_word
-    by-rel c n left rest below m to less under level back word number rel here k later s (e ∷ other) is_word related =
-        let t = back.rels number rel e k later here s is_word.0 in
-        record {
-          number = t.0;
-          rel = t.1;
-          here = t.2;
-          other = other;
-          is_word = subst (λ sh. IsWord sh other) (sym (ap below t.3.same_goal ∙ under.later rel.goal k later s)) is_word.1;
-          related = related-back c n k left later rel t.1 word other less
-              (λ p listed. let z = level.pairs number rel p here listed in (z.0, subst (λ sh. HasShape table sh p.1) s z.1)) e is_word.0 t.3 related;
-        }
+    by-rel c n left rest below m to less level keeps word of_left number rel here k later s [] is_word related = absurd is_word
+    by-rel c n left rest below m to less level keeps word of_left number rel here k later s (e ∷ other) is_word related =
+        keeps.related number rel e k later word other here s is_word.0 of_left is_word.1
+        (children-related c n k left later rel word other less
+        (λ p listed. let z = level.pairs number rel p here listed in (z.0, subst (λ sh. HasShape table sh p.1) s z.1)) e is_word.0 related)
 
     pub held-back : (c n : ℕ) (left : List ℕ) (rest below : ℕ → List ℕ) (m to : Macro) → c < n → IsBelow rest below
-        → IsOfLevel table (n ∷ left) rest m → IsBack table c rest m to → (word : List ℕ)
+        → IsOfLevel table (n ∷ left) rest m → IsBack table c m to → Keeps parts table c left rest below m to → (word : List ℕ) → IsWord left word
         → IsHeld parts table rest m (c ∷ word) → IsHeld parts table below to word
-    held-back c n left rest below m to less under level back word (inl zero) =
+    held-back c n left rest below m to less under level back keeps word of_left (inl zero) =
         inl (λ y listed. zero-child c n left m.domain word y zero (back.domain y listed))
-    held-back c n left rest below m to less under level back word (inr h) =
+    held-back c n left rest below m to less under level back keeps word of_left (inr h) =
         let s = one-more (rest h.rel.goal) (length left) (level.deep h.number h.rel h.here ∙ omega arith) in
-        inr (by-rel c n left rest below m to less under level back word h.number h.rel h.here s.0 s.1 s.2 h.other (subst (λ sh. IsWord sh h.other) s.2 h.is_word) h.related)
+        inr (by-rel c n left rest below m to less level keeps word of_left h.number h.rel h.here s.0 s.1 s.2 h.other (subst (λ sh. IsWord sh h.other) s.2 h.is_word) h.related)

@@ -111,6 +111,9 @@ module _ {L : Type 0} (table : List (Node L)) where
 
 -- ---- steps in a loop
 
+pub takes-none : (n : ℕ) (s : Count) → Takes n s s
+takes-none n s = record { later = omega arith; cheap = omega arith; same = refl }
+
 pub takes-at : (d count n : ℕ) (s m t : Count) → d < count → m ≡ after (d * n) s → Takes n m t → Takes (count * n) s t
 takes-at d count n s m t less e h =
     let more : d + 1 ≤ count = omega arith in

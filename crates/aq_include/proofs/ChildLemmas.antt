@@ -1,13 +1,15 @@
 -- What a list of children has.
-use Rattle.std.proofs.Common.{◌≡◌, ℕ, ◌*◌, ◌≤◌, ◌⊎◌, inl, inr, List, [], ◌∷◌, length, slice_get, Option, Some, None, Contains, refl, sym, ap, subst, arith}
-use Rattle.std.specs.List.{flat_map}
+use Rattle.std.proofs.Common.{◌≡◌, ℕ, ◌*◌, ◌<◌, ◌≤◌, ◌⊎◌, inl, inr, List, [], ◌∷◌, ◌++◌, length, slice_get, Option, Some, None, Contains, refl, sym, ap, ap₂, subst, ◌∙◌, arith}
+use Rattle.std.specs.List.{AllZip, flat_map}
 use Rattle.std.proofs.lemmas.List.{length-append}
 use Rattle.std.proofs.lemmas.List.Elements.{Contains-append_left, Contains-append_right, Contains-append_cases}
 use Rattle.aq_cert.proofs.MemberLemmas.{in-head, in-tail, of-two, of-none, of-cons}
 use Rattle.aq_store.specs.declared.node.Node.{Node}
 use Rattle.aq_store.specs.Nodes.{pairs_at}
 use Rattle.aq_include.specs.Members.{HasSame}
-use Rattle.aq_include.specs.Steps.{both, across, children_of, pair_children_of}
+use Rattle.aq_include.specs.declared.places.Opened.{Opened}
+use Rattle.aq_cert.proofs.ReadLemmas.{member-left}
+use Rattle.aq_include.specs.Steps.{both, across, children_of, pair_children_of, opened_children_of, IsOpened, IsPairChild}
 use Rattle.aq_include.specs.Candidates.{AreChildren, ArePairChildren}
 
 module _ {A B : Type 0} (f : A → List B) where
@@ -99,3 +101,40 @@ module _ {L : Type 0} (table : List (Node L)) where
       short-flat (pair_under c d) (λ p. across-short (slice_get (pairs_at table p.0) c) (slice_get (pairs_at table p.1) d)) ps,
     );
   }
+
+  -- a pair in the list of children is a pair of children, and the other way
+  pub child-of : (c d : ℕ) (ps : List (ℕ × ℕ)) (q : ℕ × ℕ) → Contains (pair_children_of table c d ps) q → IsPairChild table c d ps q
+  unfolding pair_under
+  child-of c d ps q h =
+      let k = of-flat (pair_under c d) ps q h in
+      let r = of-across (slice_get (pairs_at table k.0.0) c) (slice_get (pairs_at table k.0.1) d) q k.2 in
+      record { parent = k.0; left = r.0; right = r.1; listed = k.1; left_here = r.2; right_here = r.3; is = r.4 }
+
+  pub child-listed : (c d : ℕ) (ps : List (ℕ × ℕ)) (q : ℕ × ℕ) → IsPairChild table c d ps q → Contains (pair_children_of table c d ps) q
+  unfolding pair_under
+  child-listed c d ps q h =
+      let b = in-across (slice_get (pairs_at table h.parent.0) c) (slice_get (pairs_at table h.parent.1) d) h.left h.right h.left_here h.right_here in
+      in-flat (pair_under c d) ps h.parent q h.listed (elim h.is [
+        | inl e ↦ subst (Contains (pair_under c d h.parent)) (sym e) b.0
+        | inr e ↦ subst (Contains (pair_under c d h.parent)) (sym e) b.1
+      ])
+
+  -- opened pairs have the children that the pairs have
+  opened-children : (c d : ℕ) (ps : List (ℕ × ℕ)) (os : List Opened) → AllZip (IsOpened table c) ps os → opened_children_of table d os ≡ pair_children_of table c d ps
+  opened-children c d [] [] h = refl
+  opened-children c d [] (o ∷ os) h = absurd h
+  opened-children c d (p ∷ ps) [] h = absurd h
+  opened-children c d (p ∷ ps) (o ∷ os) h =
+      ap₂ (λ (l : Option (ℕ × ℕ)) (r : ℕ). across l (slice_get (pairs_at table r) d) ++ opened_children_of table d os) (sym h.0.left) h.0.right
+      ∙ ap (λ (l : List (ℕ × ℕ)). across (slice_get (pairs_at table p.0) c) (slice_get (pairs_at table p.1) d) ++ l) (opened-children c d ps os h.1)
+
+  pub of-opened : (c d : ℕ) (ps qs : List (ℕ × ℕ)) (os : List Opened) → AllZip (IsOpened table c) ps os → HasSame qs (opened_children_of table d os) → length qs ≤ length (opened_children_of table d os)
+      → ArePairChildren table c d ps qs
+  of-opened c d ps qs os h same short = are-pair-children c d ps qs (opened_children_of table d os) (opened-children c d ps os h) same short
+
+  -- the choices of the right nodes of opened pairs
+  pub opened-within : (c d : ℕ) (ps : List (ℕ × ℕ)) (os : List Opened) → AllZip (IsOpened table c) ps os → ((p : ℕ × ℕ) → Contains ps p → d < length (pairs_at table p.1))
+      → (o : Opened) → Contains os o → d < length (pairs_at table o.right)
+  opened-within c d ps os h within o listed =
+      let p = member-left (IsOpened table c) ps os h o listed in
+      subst (λ z. d < length (pairs_at table z)) (sym p.2.right) (within p.0 p.1)

@@ -12,11 +12,11 @@ use Rattle.aq_cert.specs.declared.cert.Rel.{Rel}
 use Rattle.aq_cert.specs.declared.cert.Macro.{Macro}
 use Rattle.aq_cert.specs.declared.cert.Cert.{Cert}
 use Rattle.aq_cert.specs.Meaning.{amplitudes, Included}
-use Rattle.aq_cert.specs.Rows.{item_of, item_at}
-use Rattle.aq_cert.specs.Goals.{rest_of, goal_rest}
+use Rattle.aq_cert.specs.Rows.{item_of, item_at, row_at}
+use Rattle.aq_cert.specs.Goals.{rest_of, goal_rest, levels_in}
 use Rattle.aq_cert.specs.Macros.{IsOfLevel}
 use Rattle.aq_cert.specs.Valid.{IsValid}
-use Rattle.aq_cert.specs.Placed.{ArePlaced}
+use Rattle.aq_cert.specs.Placed.{ArePlaced, StandsAt, AllStand}
 use Rattle.aq_include.proofs.GoodLemmas.{good-holds, root-matched}
 use Rattle.aq_include.proofs.CertLemmas.{valid-written}
 use Rattle.aq_include.specs.declared.table.Table.{Table}
@@ -30,6 +30,8 @@ use Rattle.aq_include.specs.Ends.{StopsWide}
 use Rattle.aq_include.specs.Search.{IsTable, IsReached}
 use Rattle.aq_include.specs.Answers.{IsFresh, IsRootRel, goal_words, search_budget, StopsFor}
 use Rattle.aq_cert.proofs.MemberLemmas.{of-cons, of-none, in-head}
+use Rattle.aq_cert.proofs.PlaceLemmas.{first-level}
+use Rattle.aq_store.specs.Levels.{levels_of}
 use Rattle.aq_include.proofs.BudgetLemmas.{budget-bound}
 use Rattle.aq_include.proofs.StepLemmas.{some-word}
 
@@ -111,6 +113,24 @@ module _ {L : Type 0} (parts : L → List Amplitude) (table : List (Node L)) whe
 
   pub fresh-table : (shape : List ℕ) (goals : List Lsta) (t : Table) → IsFresh (length shape) t → IsTable parts table shape goals t
   fresh-table shape goals t h = record { even = h.even; good = λ k i m here. absurd (no-row t.macros.items k i m (h.none k) here) }
+
+  root-stands-in : (lsta : Lsta) → Contains (row_at (levels_of table lsta) 0) lsta.root
+  root-stands-in lsta = subst (λ (l : List ℕ). Contains l lsta.root) (sym (first-level table lsta.shape.items (lsta.root ∷ []))) (in-head lsta.root [])
+
+  -- the roots stand in the first levels
+  pub root-stands : (left : Lsta) (goals : List Lsta) (m : Macro) → IsWholeRoot left goals m → StandsAt table left goals 0 m
+  root-stands left goals m r = record {
+    domain = λ x listed. subst (Contains (row_at (levels_of table left) 0)) (sym (r.only x listed)) (root-stands-in left);
+    there = λ k rel here. (let g = r.is_root.pairs k rel here in slice_get_within goals rel.goal g.0 g.1);
+    pairs = λ k rel p here listed.
+        let g = r.only_roots k rel p here listed in (
+          subst (λ (z : ℕ × ℕ). Contains (row_at (levels_of table left) 0) z.0) (sym g.2) (root-stands-in left),
+          subst (λ o. Contains (row_at (levels_in table o) 0) p.1) (sym g.1) (subst (λ (z : ℕ × ℕ). Contains (row_at (levels_of table g.0) 0) z.1) (sym g.2) (root-stands-in g.0)),
+        );
+  }
+
+  pub none-stand : (n : ℕ) (left : Lsta) (goals : List Lsta) (t : Table) → IsFresh n t → AllStand table left goals t.macros.items
+  none-stand n left goals t h = record { each = λ k i m here. absurd (no-row t.macros.items k i m (h.none k) here) }
 
   -- the certificate of a table in which the root was reached
   pub certified : (left : Lsta) (goals : List Lsta) (m : Macro) (old new : Table) (i : ℕ) (rows : List (List Macro)) (cert : Cert) → IsWholeRoot left goals m → IsFresh (length left.shape.items) old

@@ -15,7 +15,7 @@ use Rattle.aq_cert.specs.Held.{IsHeldBy, IsHeld}
 use Rattle.aq_cert.proofs.StepLemmas.{amplitudes-step}
 use Rattle.aq_cert.proofs.HeldLemmas.{IsBelow, edge-holds}
 use Rattle.aq_include.proofs.GoodLemmas.{root-matched}
-use Rattle.aq_include.specs.Steps.{IsBack}
+use Rattle.aq_include.specs.Steps.{IsBack, Keeps}
 use Rattle.aq_include.specs.Least.{IsLeast, IsWideAt, IsWholeRoot}
 use Rattle.aq_include.proofs.BackLemmas.{held-back}
 
@@ -31,12 +31,12 @@ module _ {L : Type 0} (parts : L → List Amplitude) (count : ℕ) (all_parts : 
       subst (λ i. IsHeld parts table rest m (i ∷ other)) (sym b.0) (edge-holds parts table c n left rest below m to from less under level e other (h.least other b.1))
 
   pub least-step : (c n : ℕ) (left : List ℕ) (rest below : ℕ → List ℕ) (m to : Macro) (from : List (ℕ × ℕ)) → c < n → IsBelow rest below
-      → IsOfLevel table (n ∷ left) rest m → IsEdge table c rest m to from → IsBack table c rest m to
+      → IsOfLevel table (n ∷ left) rest m → IsEdge table c rest m to from → IsBack table c m to → Keeps parts table c left rest below m to
       → ((d : ℕ) (word : List ℕ) → d < c → IsHeld parts table rest m (d ∷ word)) → (word : List ℕ) → IsLeast parts table left below to word
       → IsLeast parts table (n ∷ left) rest m (c ∷ word)
-  least-step c n left rest below m to from less under level e back before word h = record {
+  least-step c n left rest below m to from less under level e back keeps before word h = record {
     is_word = (less, h.is_word);
-    escapes = λ held. h.escapes (held-back parts count all_parts table c n left rest below m to less under level back word held);
+    escapes = λ held. h.escapes (held-back parts count all_parts table c n left rest below m to less under level back keeps word h.is_word held);
     least = earlier-held c n left rest below m to from less under level e before word h;
   }
 
@@ -94,7 +94,7 @@ module _ {L : Type 0} (parts : L → List Amplitude) (table : List (Node L)) whe
   seconds q l r (inr e) = inr (ap (λ (z : ℕ × ℕ). z.1) e)
 
   -- what doesn't fit below a macro doesn't fit at it
-  pub wide-step : (c : ℕ) (rest : ℕ → List ℕ) (m to : Macro) (l r : Amplitude) → IsBack table c rest m to → IsWideAt parts table to l r → IsWideAt parts table m l r
+  pub wide-step : (c : ℕ) (rest : ℕ → List ℕ) (m to : Macro) (l r : Amplitude) → IsBack table c m to → IsWideAt parts table to l r → IsWideAt parts table m l r
   wide-step c rest m to l r back w =
       let s = back.sources w.number w.rel w.here in
       let a = s.is.only w.left_pair w.left_listed in

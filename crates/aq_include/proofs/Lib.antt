@@ -1,4 +1,5 @@
 pub mod Passed
+pub mod CostLemmas
 pub mod GoodLemmas
 pub mod BackLemmas
 pub mod LeastLemmas
@@ -6,8 +7,10 @@ pub mod PlaceLemmas
 pub mod ChildLemmas
 pub mod CandidateLemmas
 pub mod StepLemmas
+pub mod OwnLemmas
 pub mod BudgetLemmas
 pub mod EndLemmas
+pub mod StandLemmas
 pub mod SearchLemmas
 pub mod TurnLemmas
 pub mod CertLemmas

@@ -1,11 +1,13 @@
 -- From candidates to the macro under a choice.
 use Rattle.std.proofs.Common.{◌≡◌, ℕ, zero, suc, ◌+◌, ◌*◌, ◌<◌, ◌≤◌, ◌⊎◌, inl, inr, List, [], ◌∷◌, ◌++◌, length, map, drop, take, slice_get, get_or, Option, Some, None, Contains, refl, sym, ap, subst, ◌∙◌, arith, sum_by}
 use Rattle.std.specs.Prelude.{slice_index}
-use Rattle.std.proofs.Math.Nat.{mul-le-mul_left}
+use Rattle.std.proofs.Math.Nat.{mul-le-mul_left, mul-le-mul_right}
 use Rattle.std.proofs.lemmas.List.{drop_more, drop_all, take_more, length-map, length-take-le}
 use Rattle.std.proofs.lemmas.Bool.{cases_lt}
-use Rattle.std.proofs.lemmas.List.Sums.{sum_by-cons, sum_by-append, sum_by_push, sum_by-le-sum_by, sum_by-take-le}
-use Rattle.std.proofs.lemmas.Option.{slice_get-get_or}
+use Rattle.std.proofs.lemmas.List.Sums.{sum_by-cons, sum_by-append, sum_by_push, sum_by-le-sum_by, sum_by-take-le, get_or-le-sum_by}
+use Rattle.std.proofs.lemmas.Option.{slice_get-get_or, slice_get_within, get_or_from_slice_get}
+use Rattle.aq_ring.specs.Fractions.{Amplitude}
+use Rattle.aq_ring.specs.Vectors.{scaled}
 use Rattle.aq_store.specs.declared.node.Node.{Node}
 use Rattle.aq_store.specs.declared.lsta.Lsta.{Lsta}
 use Rattle.aq_store.specs.Count.{Count, after}
@@ -14,16 +16,23 @@ use Rattle.aq_store.proofs.TableLemmas.{slice_get-push, slice_get-some}
 use Rattle.aq_cert.specs.declared.cert.Rel.{Rel}
 use Rattle.aq_cert.specs.declared.cert.Macro.{Macro}
 use Rattle.aq_cert.specs.Goals.{rest_of, goal_rest}
-use Rattle.aq_cert.specs.Macros.{IsOfLevel, IsStepOf}
-use Rattle.aq_cert.proofs.StepLemmas.{pairs-length}
+use Rattle.aq_store.proofs.ShapeLemmas.{one_shape}
+use Rattle.aq_store.specs.Words.{IsWord}
+use Rattle.aq_cert.specs.Meaning.{amplitudes}
+use Rattle.aq_cert.specs.Macros.{IsOfLevel, IsStepOf, IsRelated}
+use Rattle.aq_cert.proofs.MemberLemmas.{of-get}
+use Rattle.aq_cert.proofs.HeldLemmas.{IsBelow}
+use Rattle.aq_cert.proofs.StepLemmas.{pairs-length, children}
 use Rattle.aq_include.specs.declared.step.Candidate.{Candidate}
 use Rattle.aq_include.specs.declared.step.Stepped.{Stepped}
+use Rattle.aq_include.specs.declared.own.Own.{Own}
 use Rattle.aq_store.specs.declared.store.Stop.{Stop}
 use Rattle.aq_store.specs.declared.store.Stop.TheVariants as stop
-use Rattle.aq_include.specs.Steps.{IsOnly}
+use Rattle.aq_include.specs.Steps.{IsOnly, IsPairChild, IsOwn, pair_children_of}
+use Rattle.aq_include.proofs.ChildLemmas.{child-listed}
 use Rattle.aq_include.specs.Costs.{Takes, IsCause, rel_weight, size}
 use Rattle.aq_store.specs.Words.{words}
-use Rattle.aq_include.specs.Candidates.{Thins, AreChildren, IsCandidate, AreOfRel, AreOfRels, IsStepped}
+use Rattle.aq_include.specs.Candidates.{Thins, AreChildren, ArePairChildren, IsCandidate, IsCandidateAt, AreOfRel, IsStepOfSome, AreOfRels, IsOwnOf, Suffice, IsStepped}
 use Rattle.aq_include.specs.Levels.{HasLevel}
 use Rattle.aq_include.proofs.BudgetLemmas.{words-cons}
 use Rattle.aq_include.proofs.CandidateLemmas.{get-front, get-last, offers-front}
@@ -120,12 +129,17 @@ module _ {L : Type 0} (table : List (Node L)) where
       → AreOfRels table c rest rels list → AreOfRel table c rel (length rels) n n more → AreOfRels table c rest (rels ++ rel ∷ []) (list ++ more)
   of-rels-append c rest rels list more rel n later e h k = record {
     each = λ j x here. elim (get-append list more j x here) [
-      | inl old ↦ (let r = h.each j x old in (r.0, get-front rels (rel ∷ []) x.number r.0 r.1, r.2))
-      | inr new ↦ (let r = k.each new.0 x new.1 in (
-        rel,
-        ap (slice_get (rels ++ rel ∷ [])) r.number_is ∙ get-last rels rel,
-        (n, later, e, record { number_is = refl; same_goal = r.same_goal; choice = r.choice; pairs = r.pairs }),
-      ))
+      | inl old ↦
+          (let r = h.each j x old in
+          record { rel = r.rel; here = get-front rels (rel ∷ []) x.number r.rel r.here; choices = r.choices; later = r.later; shape = r.shape; is = r.is })
+      | inr new ↦ (let r = k.each new.0 x new.1 in record {
+        rel = rel;
+        here = ap (slice_get (rels ++ rel ∷ [])) r.number_is ∙ get-last rels rel;
+        choices = n;
+        later = later;
+        shape = e;
+        is = record { number_is = refl; same_goal = r.same_goal; choice = r.choice; pairs = r.pairs };
+      })
     ];
     offers = λ i s d m other here is less. elim (slice_get-push rels rel i s here) [
       | inl old ↦ offers-front table c s d list more (h.offers i s d m other old is less)
@@ -264,10 +278,147 @@ module _ {L : Type 0} (table : List (Node L)) where
     pairs = h.pairs.all;
   }
 
-  stepped-plain : (c : ℕ) (rest below : ℕ → List ℕ) (m : Macro) (domain : List ℕ) (list kept : List Candidate) → AreChildren table c m.domain domain → AreOfRels table c rest m.rels list → Thins list kept
-      → sum_by (λ (x : Candidate). rel_weight below x.rel) list ≤ 2 * sum_by (rel_weight rest) m.rels
-      → IsStepped table c rest below m (record { to = record { domain = domain; rels = map (λ (x : Candidate). x.rel) kept }; from = map (λ (x : Candidate). (x.number, x.choice)) kept })
-  stepped-plain c rest below m domain list kept d r t light = record {
+  -- a candidate at a choice below the number is a candidate
+  at-below : (c : ℕ) (rel : Rel) (number d n : ℕ) (x : Candidate) → d < n → IsCandidateAt table c rel number d x → IsCandidate table c rel x.number n x
+  at-below c rel number d n x less h = record {
+    number_is = refl;
+    same_goal = h.same_goal;
+    choice = omega (arith, less, h.choice_is);
+    pairs = subst (λ e. ArePairChildren table c e rel.pairs x.rel.pairs) (sym h.choice_is) h.pairs;
+  }
+
+  pub rel-within : (rest : ℕ → List ℕ) (rels : List Rel) (k : ℕ) (rel : Rel) → slice_get rels k ≡ Some rel → rel_weight rest rel ≤ sum_by (rel_weight rest) rels
+  rel-within rest rels k rel here =
+      let less = slice_get_within rels k rel here in
+      subst (λ (r : Rel). rel_weight rest r ≤ sum_by (rel_weight rest) rels) (get_or_from_slice_get rels k rel rel here) (get_or-le-sum_by (rel_weight rest) rels k rel less)
+
+  pub own-read : (xs ys : List Rel) (k : ℕ) (rel r : Rel) → xs ≡ ys → slice_get ys k ≡ Some rel → r ≡ get_or xs k r → r ≡ rel
+  own-read xs ys k rel r e here is = is ∙ get_or_from_slice_get xs k rel r (subst (λ (l : List Rel). slice_get l k ≡ Some rel) (sym e) here)
+
+  -- the choices at an own relation's pairs
+  pub own-pairs : (rest : ℕ → List ℕ) (c : ℕ) (left : List ℕ) (m : Macro) (own : Own) → IsOfLevel table left rest m → c < slice_index left 0 → (o : IsOwnOf table c rest m.rels own)
+      → (p : ℕ × ℕ) → Contains o.rel.pairs p → (c < length (pairs_at table p.0)) × (own.choice < length (pairs_at table p.1))
+  own-pairs rest c left m own h less o p listed =
+      let f = first-is left c less in
+      let s = h.pairs own.number o.rel p o.here listed in
+      let a : HasShape table (f.0 ∷ f.1) p.0 = subst (λ l. HasShape table l p.0) f.2 s.0 in
+      let b : HasShape table (o.choices ∷ o.later) p.1 = subst (λ l. HasShape table l p.1) o.shape s.1 in
+      (omega (arith, f.3, pairs-length table f.0 f.1 p.0 a), omega (arith, o.choice, pairs-length table o.choices o.later p.1 b))
+
+  -- the pairs of an own relation are at most its weight
+  pub own-cheap : (rest : ℕ → List ℕ) (c : ℕ) (left : List ℕ) (m : Macro) (own : Own) → IsOfLevel table left rest m → (o : IsOwnOf table c rest m.rels own) → length o.rel.pairs ≤ sum_by (rel_weight rest) m.rels
+  own-cheap rest c left m own h o =
+      let all = rel-cheap table rest left o.rel o.choices o.later o.shape (λ p listed. h.pairs own.number o.rel p o.here listed) in
+      let some : 1 ≤ o.choices = omega (arith, o.choice) in
+      let more : 1 * length o.rel.pairs ≤ o.choices * length o.rel.pairs = mul-le-mul_right (length o.rel.pairs) some in
+      omega (arith, all, more, rel-within rest m.rels own.number o.rel o.here)
+
+module _ {L : Type 0} (parts : L → List Amplitude) (table : List (Node L)) where
+  -- fewer pairs are related too
+  fewer : (qs ps : List (ℕ × ℕ)) (word other : List ℕ) → ((p : ℕ × ℕ) → Contains ps p → Contains qs p) → IsRelated parts table qs word other → IsRelated parts table ps word other
+  fewer qs ps word other sub h = record { left = h.left; right = h.right; left_nonzero = h.left_nonzero; right_nonzero = h.right_nonzero; same = λ p listed. h.same p (sub p listed) }
+
+  -- all relations that the choices give, without repeats
+  pub suffice-each : (c : ℕ) (rest below : ℕ → List ℕ) (m : Macro) (list kept : List Candidate) → IsBelow rest below → AreOfRels table c rest m.rels list → Thins list kept
+      → sum_by (λ (x : Candidate). rel_weight below x.rel) list ≤ 2 * sum_by (rel_weight rest) m.rels → Suffice parts table c rest below m kept
+  suffice-each c rest below m list kept under r t light = record {
+    each = λ j x here. (let o = t.from j x here in r.each o.0 x o.1);
+    keeps = λ n left h less. record {
+      related = λ k rel e n' later word other here shape inside w v q.
+          let o = r.offers k rel e n' later here shape inside in
+          let y = t.covers o.place o.candidate o.here in
+          let goal : y.1.rel.goal ≡ rel.goal = y.3.same_goal ∙ o.is.same_goal in
+          record {
+            number = y.0;
+            rel = y.1.rel;
+            here = map-get (λ (x : Candidate). x.rel) kept y.0 y.1 y.2;
+            other = other;
+            is_word = subst (λ sh. IsWord sh other) (sym (ap below goal ∙ under.later rel.goal n' later shape)) v;
+            related = fewer (pair_children_of table c e rel.pairs) y.1.rel.pairs word other (λ p listed. child-listed table c e rel.pairs p (o.is.only p (y.3.pairs p listed))) q;
+          };
+    };
+    light = omega (arith, light, t.lighter (λ x. rel_weight below x.rel));
+  }
+
+  -- both sides of an own relation have one shape below
+  own-shape : (c n : ℕ) (left : List ℕ) (rest : ℕ → List ℕ) (m : Macro) (own : Own) → IsOfLevel table (n ∷ left) rest m → c < n → (o : IsOwnOf table c rest m.rels own) → left ≡ o.later
+  own-shape c n left rest m own h less o =
+      let p = slice_get-some o.rel.pairs 0 o.same.some in
+      let listed = of-get o.rel.pairs 0 p.0 p.1 in
+      let s = h.pairs own.number o.rel p.0 o.here listed in
+      let a = children table n left c p.0.0 s.0 less in
+      let b = children table o.choices o.later own.choice p.0.1 (subst (λ l. HasShape table l p.0.1) o.shape s.1) o.choice in
+      let same : a.0 ≡ b.0 = (let e : Some a.0 ≡ Some b.0 = sym a.1.here ∙ o.same.same p.0 listed ∙ b.1.here in cc) in
+      one_shape table left o.later a.0.0 a.1.left (subst (λ (z : ℕ × ℕ). HasShape table o.later z.0) (sym same) b.1.left)
+
+  -- each pair of an own relation's children has one node twice
+  own-twice : (c d : ℕ) (pairs : List (ℕ × ℕ)) (q : ℕ × ℕ) → IsOwn table c d pairs → IsPairChild table c d pairs q → q.0 ≡ q.1
+  own-twice c d pairs q o h =
+      let same : h.left ≡ h.right = (let e : Some h.left ≡ Some h.right = sym h.left_here ∙ o.same h.parent h.listed ∙ h.right_here in cc) in
+      elim h.is [
+        | inl e ↦ ap (λ (z : ℕ × ℕ). z.0) e ∙ ap (λ (z : ℕ × ℕ). z.0) same ∙ sym (ap (λ (z : ℕ × ℕ). z.1) e)
+        | inr e ↦ ap (λ (z : ℕ × ℕ). z.0) e ∙ ap (λ (z : ℕ × ℕ). z.1) same ∙ sym (ap (λ (z : ℕ × ℕ). z.1) e)
+      ]
+
+  -- a relation that leads to the same nodes on both sides relates each word to itself
+  pub suffice-own : (c : ℕ) (rest below : ℕ → List ℕ) (m : Macro) (own : Own) (x : Candidate) (list : List Candidate) → IsBelow rest below → (o : IsOwnOf table c rest m.rels own)
+      → IsCandidateAt table c o.rel own.number own.choice x → list ≡ x ∷ [] → Suffice parts table c rest below m list
+  suffice-own c rest below m own x list under o k is = subst (Suffice parts table c rest below m) (sym is) (record {
+    each = only-one;
+    keeps = λ n left h less. record {
+      related = λ j rel e n' later word other here shape inside w v q. record {
+        number = 0;
+        rel = x.rel;
+        here = refl;
+        other = word;
+        is_word = subst (λ sh. IsWord sh word) (own-shape c n left rest m own h less o ∙ sym goal) w;
+        related = record {
+          left = q.left;
+          right = q.left;
+          left_nonzero = q.left_nonzero;
+          right_nonzero = q.left_nonzero;
+          same = λ p listed. ap (λ i. scaled q.left (amplitudes parts table word i)) (own-twice c own.choice o.rel.pairs p o.same (k.pairs.from p listed));
+        };
+      };
+    };
+    light = light;
+  })
+    where
+      goal : below x.rel.goal ≡ o.later
+      goal = ap below k.same_goal ∙ under.later o.rel.goal o.choices o.later o.shape
+
+      first : IsStepOfSome table c rest m.rels x
+      first = record {
+        rel = o.rel;
+        here = ap (slice_get m.rels) k.number_is ∙ o.here;
+        choices = o.choices;
+        later = o.later;
+        shape = o.shape;
+        is = at-below table c o.rel own.number own.choice o.choices x o.choice k;
+      }
+
+      only-one : (j : ℕ) (y : Candidate) → slice_get (x ∷ []) j ≡ Some y → IsStepOfSome table c rest m.rels y
+      only-one zero y e = (let s : x ≡ y = cc in subst (IsStepOfSome table c rest m.rels) s first)
+      only-one (suc j) y e = cc
+
+      twice : (a l n w : ℕ) → a ≤ 2 * l → 1 ≤ n → a * w ≤ 2 * (l * (n * w))
+      twice a l n w short some =
+          let x : a * w ≤ 2 * l * w = mul-le-mul_right w short in
+          let y : 1 * w ≤ n * w = mul-le-mul_right w some in
+          let z : l * (1 * w) ≤ l * (n * w) = mul-le-mul_left l y in
+          omega (arith, x, z)
+
+      light : sum_by (λ (y : Candidate). rel_weight below y.rel) (x ∷ []) ≤ 2 * sum_by (rel_weight rest) m.rels
+      light =
+          let one : sum_by (λ (y : Candidate). rel_weight below y.rel) (x ∷ []) ≡ rel_weight below x.rel + 0 = sum_by-cons (λ (y : Candidate). rel_weight below y.rel) x [] in
+          let mine : rel_weight below x.rel ≡ length x.rel.pairs * words o.later = ap (λ l. length x.rel.pairs * words l) goal in
+          let whole : rel_weight rest o.rel ≡ length o.rel.pairs * (o.choices * words o.later) = ap (λ z. length o.rel.pairs * z) (ap words o.shape ∙ words-cons o.choices o.later) in
+          let t = twice (length x.rel.pairs) (length o.rel.pairs) o.choices (words o.later) k.pairs.short (omega (arith, o.choice)) in
+          omega (arith, one, mine, whole, t, rel-within table rest m.rels own.number o.rel o.here)
+
+  stepped-plain : (c : ℕ) (rest below : ℕ → List ℕ) (m : Macro) (domain : List ℕ) (kept : List Candidate) → AreChildren table c m.domain domain → Suffice parts table c rest below m kept
+      → IsStepped parts table c rest below m (record { to = record { domain = domain; rels = map (λ (x : Candidate). x.rel) kept }; from = map (λ (x : Candidate). (x.number, x.choice)) kept })
+  stepped-plain c rest below m domain kept d u = record {
     edge = record {
       domain = d.all;
       one_each = length-map kept (λ (x : Candidate). (x.number, x.choice)) ∙ sym (length-map kept (λ (x : Candidate). x.rel));
@@ -275,41 +426,38 @@ module _ {L : Type 0} (table : List (Node L)) where
           let a = get-map (λ (x : Candidate). (x.number, x.choice)) kept k s here in
           let b = get-map (λ (x : Candidate). x.rel) kept k rel there in
           let same : b.0 ≡ a.0 = (let e : Some b.0 ≡ Some a.0 = sym b.1 ∙ a.1 in cc) in
-          let o = t.from k a.0 a.1 in
-          let q = r.each o.0 a.0 o.1 in
+          let q = u.each k a.0 a.1 in
           subst (λ (z : ℕ × ℕ). IsStepOf table c rest m.rels z rel) a.2
           (subst (λ (z : Rel). IsStepOf table c rest m.rels (a.0.number, a.0.choice) z) (ap (λ (x : Candidate). x.rel) (sym same) ∙ b.2)
-          (step-of c rest m.rels a.0 q.0 q.2.0 q.2.1 q.1 q.2.2 q.2.3));
+          (step-of table c rest m.rels a.0 q.rel q.choices q.later q.here q.shape q.is));
     };
     back = record {
       domain = d.from;
-      rels = λ k rel e n later here shape less.
-          let o = r.offers k rel e n later here shape less in
-          let y = t.covers o.place o.candidate o.here in (
-            y.0,
-            y.1.rel,
-            map-get (λ (x : Candidate). x.rel) kept y.0 y.1 y.2,
-            record { same_goal = y.3.same_goal ∙ o.is.same_goal; only = λ q listed. o.is.only q (y.3.pairs q listed) },
-          );
       sources = λ j to here.
           let b = get-map (λ (x : Candidate). x.rel) kept j to here in
-          let o = t.from j b.0 b.1 in
-          let q = r.each o.0 b.0 o.1 in
-          record { number = b.0.number; rel = q.0; choice = b.0.choice; here = q.1; is = subst (IsOnly table c q.0 b.0.choice) b.2 (only-of c q.0 b.0.number q.2.0 b.0 q.2.3) };
+          let q = u.each j b.0 b.1 in
+          record { number = b.0.number; rel = q.rel; choice = b.0.choice; here = q.here; is = subst (IsOnly table c q.rel b.0.choice) b.2 (only-of table c q.rel b.0.number q.choices b.0 q.is) };
     };
-    light = omega (arith, d.short, light, t.lighter (λ x. rel_weight below x.rel), sum-map (λ (x : Candidate). x.rel) (rel_weight below) kept);
+    keeps = λ n left h less. record {
+      related = λ k rel e n' later word other here shape inside w v q.
+          let z = (u.keeps n left h less).related k rel e n' later word other here shape inside w v q in
+          record { number = z.number; rel = z.rel; here = z.here; other = z.other; is_word = z.is_word; related = z.related };
+    };
+    light = omega (arith, d.short, u.light, sum-map (λ (x : Candidate). x.rel) (rel_weight below) kept);
   }
 
-  pub stepped : (c : ℕ) (rest below : ℕ → List ℕ) (m : Macro) (domain : List ℕ) (list kept : List Candidate) (s : Stepped) → AreChildren table c m.domain domain → AreOfRels table c rest m.rels list → Thins list kept
-      → sum_by (λ (x : Candidate). rel_weight below x.rel) list ≤ 2 * sum_by (rel_weight rest) m.rels
+  pub stepped : (c : ℕ) (rest below : ℕ → List ℕ) (m : Macro) (domain : List ℕ) (kept : List Candidate) (s : Stepped) → AreChildren table c m.domain domain → Suffice parts table c rest below m kept
       → s.to.domain ≡ domain → s.to.rels ≡ map (λ (x : Candidate). x.rel) kept → s.from ≡ map (λ (x : Candidate). (x.number, x.choice)) kept
-      → IsStepped table c rest below m s
-  stepped c rest below m domain list kept s d r t light e f h =
+      → IsStepped parts table c rest below m s
+  stepped c rest below m domain kept s d u e f h =
       let same : record { to = record { domain = domain; rels = map (λ (x : Candidate). x.rel) kept }; from = map (λ (x : Candidate). (x.number, x.choice)) kept } ≡ s =
       λ i. record { to = record { domain = sym e i; rels = sym f i }; from = sym h i } in
-      subst (IsStepped table c rest below m) same (stepped-plain c rest below m domain list kept d r t light)
+      subst (IsStepped parts table c rest below m) same (stepped-plain c rest below m domain kept d u)
 
-  pub stepped-size : (domain : List ℕ) (list kept : List Candidate) (s : Stepped) (n a b : ℕ) → length domain ≤ 2 * n → Thins list kept → sum_by (λ (x : Candidate). length x.rel.pairs) list + 2 * a ≤ 2 * b
-      → s.to.domain ≡ domain → s.to.rels ≡ map (λ (x : Candidate). x.rel) kept → (start : ℕ) → a ≡ start + n → size s.to + 2 * start ≤ 2 * b
-  stepped-size domain list kept s n a b short t paid e f start is =
-      omega (arith, short, paid, t.lighter (λ x. length x.rel.pairs), sum-map (λ (x : Candidate). x.rel) (λ (r : Rel). length r.pairs) kept, ap (sum_by (λ (r : Rel). length r.pairs)) f, ap (λ (l : List ℕ). length l) e)
+pub thinned-size : (list kept : List Candidate) (a b : ℕ) → Thins list kept → sum_by (λ (x : Candidate). length x.rel.pairs) list + 2 * a ≤ 2 * b → sum_by (λ (x : Candidate). length x.rel.pairs) kept + 2 * a ≤ 2 * b
+thinned-size list kept a b t paid = omega (arith, paid, t.lighter (λ x. length x.rel.pairs))
+
+pub stepped-size : (domain : List ℕ) (kept : List Candidate) (s : Stepped) (n a b : ℕ) → length domain ≤ 2 * n → sum_by (λ (x : Candidate). length x.rel.pairs) kept + 2 * a ≤ 2 * b
+    → s.to.domain ≡ domain → s.to.rels ≡ map (λ (x : Candidate). x.rel) kept → (start : ℕ) → a ≡ start + n → size s.to + 2 * start ≤ 2 * b
+stepped-size domain kept s n a b short paid e f start is =
+    omega (arith, short, paid, sum-map (λ (x : Candidate). x.rel) (λ (r : Rel). length r.pairs) kept, ap (sum_by (λ (r : Rel). length r.pairs)) f, ap (λ (l : List ℕ). length l) e)

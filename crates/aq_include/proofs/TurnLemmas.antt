@@ -105,7 +105,7 @@ module _ {L : Type 0} (table : List (Node L)) where
   either P y a b (inl e) h = subst P (sym e) h.0
   either P y a b (inr e) h = subst P (sym e) h.1
 
-  pub level-step : (c n : ℕ) (left : List ℕ) (rest below : ℕ → List ℕ) (m to : Macro) → IsBelow rest below → IsOfLevel table (n ∷ left) rest m → IsBack table c rest m to
+  pub level-step : (c n : ℕ) (left : List ℕ) (rest below : ℕ → List ℕ) (m to : Macro) → IsBelow rest below → IsOfLevel table (n ∷ left) rest m → IsBack table c m to
       → IsOfLevel table left below to
   level-step c n left rest below m to under h back = record {
     domain = λ y listed.
@@ -139,9 +139,9 @@ module _ {L : Type 0} (table : List (Node L)) where
       seconds q l r (inr e) = inr (ap (λ (z : ℕ × ℕ). z.1) e)
 
   -- the macro that a step makes is of the next level
-  pub stepped-level : (shape : List ℕ) (goals : List Lsta) (level c : ℕ) (m : Macro) (s : Stepped) → level < length shape → IsOfLevel table (drop level shape) (goal_rest goals level) m
-      → IsStepped table c (goal_rest goals level) (goal_rest goals (level + 1)) m s → IsOfLevel table (drop (level + 1) shape) (goal_rest goals (level + 1)) s.to
-  stepped-level shape goals level c m s less h k =
+  pub stepped-level : (parts : L → List Amplitude) (shape : List ℕ) (goals : List Lsta) (level c : ℕ) (m : Macro) (s : Stepped) → level < length shape → IsOfLevel table (drop level shape) (goal_rest goals level) m
+      → IsStepped parts table c (goal_rest goals level) (goal_rest goals (level + 1)) m s → IsOfLevel table (drop (level + 1) shape) (goal_rest goals (level + 1)) s.to
+  stepped-level parts shape goals level c m s less h k =
       level-step c (get_or shape level 0) (drop (level + 1) shape) (goal_rest goals level) (goal_rest goals (level + 1)) m s.to (goals_below goals level)
       (subst (λ l. IsOfLevel table l (goal_rest goals level) m) (drop_more shape level 0 less) h) k.back
 
@@ -158,7 +158,7 @@ module _ {L : Type 0} (table : List (Node L)) where
   -- the first word below, with the choice before it
   pub least-turn : (parts : L → List Amplitude) (count : ℕ) (all_parts : (x : L) → length (parts x) ≡ count) (shape : List ℕ) (goals : List Lsta) (level c : ℕ) (m : Macro) (s : Stepped)
       → level < length shape → c < slice_index (drop level shape) 0 → IsOfLevel table (drop level shape) (goal_rest goals level) m
-      → IsStepped table c (goal_rest goals level) (goal_rest goals (level + 1)) m s
+      → IsStepped parts table c (goal_rest goals level) (goal_rest goals (level + 1)) m s
       → ((d : ℕ) (word : List ℕ) → d < c → IsHeld parts table (goal_rest goals level) m (d ∷ word)) → (word whole : List ℕ) → whole ≡ c ∷ word
       → IsLeast parts table (drop (level + 1) shape) (goal_rest goals (level + 1)) s.to word → IsLeast parts table (drop level shape) (goal_rest goals level) m whole
   least-turn parts count all_parts shape goals level c m s inside less h k before word whole is least =
@@ -167,7 +167,8 @@ module _ {L : Type 0} (table : List (Node L)) where
       subst (λ w. IsLeast parts table (drop level shape) (goal_rest goals level) m w) (sym is)
       (subst (λ l. IsLeast parts table l (goal_rest goals level) m (c ∷ word)) (sym split)
       (least-step parts count all_parts table c (get_or shape level 0) (drop (level + 1) shape) (goal_rest goals level) (goal_rest goals (level + 1)) m s.to s.from below (goals_below goals level)
-      (subst (λ l. IsOfLevel table l (goal_rest goals level) m) split h) k.edge k.back before word least))
+      (subst (λ l. IsOfLevel table l (goal_rest goals level) m) split h) k.edge k.back
+      (k.keeps (get_or shape level 0) (drop (level + 1) shape) (subst (λ l. IsOfLevel table l (goal_rest goals level) m) split h) below) before word least))
 
 -- ---- the last level
 
@@ -184,15 +185,6 @@ ends-each rest (r ∷ rels) f =
 
 pub ends-cheap : {L : Type 0} (table : List (Node L)) (rest : ℕ → List ℕ) (m : Macro) → IsOfLevel table [] rest m → sum_by (λ (r : Rel). length r.pairs) m.rels ≤ weight rest m
 ends-cheap table rest m h = omega (arith, ends-each rest m.rels (λ k rel e. h.deep k rel e))
-
-pub takes-within : (a b : ℕ) (s t : Count) → a ≤ b → Takes a s t → Takes b s t
-takes-within a b s t le h = record { later = h.later; cheap = omega (arith, h.cheap); same = h.same }
-
-pub cause-within : {L : Type 0} → (a b : ℕ) (s : Count) (why : Stop L) → a ≤ b → IsCause a s why → IsCause b s why
-cause-within a b s stop.Spent le h = omega (arith, h)
-cause-within a b s (stop.Wide l r) le h = tt
-cause-within a b s (stop.WideParts l r) le h = tt
-cause-within a b s stop.Memory le h = tt
 
 pub end-budget : (shape : List ℕ) (level w : ℕ) → length shape ≤ level → budget (drop level shape) w ≡ w
 unfolding budget
@@ -213,7 +205,7 @@ module _ {L : Type 0} (parts : L → List Amplitude) (table : List (Node L)) whe
   not-wide m (stop.WideParts l r) h = absurd h
   not-wide m stop.Memory h = tt
 
-  pub stops-back : (c : ℕ) (rest : ℕ → List ℕ) (m to : Macro) (e : Stop L) → IsBack table c rest m to → StopsWide parts table to e → StopsWide parts table m e
+  pub stops-back : (c : ℕ) (rest : ℕ → List ℕ) (m to : Macro) (e : Stop L) → IsBack table c m to → StopsWide parts table to e → StopsWide parts table m e
   stops-back c rest m to stop.Spent back h = tt
   stops-back c rest m to (stop.Wide l r) back h = absurd h
   stops-back c rest m to (stop.WideParts l r) back h = wide-step parts table c rest m to l r back h

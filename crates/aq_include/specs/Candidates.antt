@@ -1,14 +1,16 @@
 -- The relations under a choice, before repeats are left out.
-use Rattle.std.specs.Prelude.{◌≡◌, ℕ, ◌*◌, ◌<◌, ◌≤◌, List, ◌∷◌, length, sum_by, slice_get, Some, Contains}
+use Rattle.std.specs.Prelude.{◌≡◌, ℕ, ◌*◌, ◌<◌, ◌≤◌, List, [], ◌∷◌, length, map, sum_by, slice_get, Some, Contains}
+use Rattle.aq_ring.specs.Fractions.{Amplitude}
 use Rattle.aq_store.specs.declared.node.Node.{Node}
 use Rattle.aq_store.specs.Nodes.{pairs_at}
 use Rattle.aq_cert.specs.declared.cert.Rel.{Rel}
 use Rattle.aq_cert.specs.declared.cert.Macro.{Macro}
-use Rattle.aq_cert.specs.Macros.{IsEdge}
+use Rattle.aq_cert.specs.Macros.{IsOfLevel, IsEdge}
 use Rattle.aq_include.specs.declared.step.Candidate.{Candidate}
 use Rattle.aq_include.specs.declared.step.Stepped.{Stepped}
-use Rattle.aq_include.specs.Steps.{IsChild, IsPairChild, IsOnly, IsBack}
-use Rattle.aq_include.specs.Costs.{weight}
+use Rattle.aq_include.specs.declared.own.Own.{Own}
+use Rattle.aq_include.specs.Steps.{IsChild, IsPairChild, IsOnly, IsOwn, IsBack, Keeps}
+use Rattle.aq_include.specs.Costs.{rel_weight, weight}
 
 -- the relation asks for no more than the other
 pub record IsWithin (r s : Rel) : Type 0 where
@@ -49,6 +51,13 @@ module _ {L : Type 0} (table : List (Node L)) where
     pub choice : x.choice < count
     pub pairs : ArePairChildren c x.choice rel.pairs x.rel.pairs
 
+  -- the candidate is the relation with this number under this choice of its goal
+  pub record IsCandidateAt (c : ℕ) (rel : Rel) (number d : ℕ) (x : Candidate) : Type 0 where
+    pub number_is : x.number ≡ number
+    pub choice_is : x.choice ≡ d
+    pub same_goal : x.rel.goal ≡ rel.goal
+    pub pairs : ArePairChildren c d rel.pairs x.rel.pairs
+
   -- some candidate is the relation under this choice of its goal
   pub record Offers (c : ℕ) (rel : Rel) (d : ℕ) (list : List Candidate) : Type 0 where
     pub place : ℕ
@@ -62,14 +71,44 @@ module _ {L : Type 0} (table : List (Node L)) where
     pub offers : (d : ℕ) → d < done → Offers c rel d list
     pub light : (f : ℕ → ℕ) → sum_by (λ (x : Candidate). length x.rel.pairs * f x.rel.goal) list ≤ done * (2 * (length rel.pairs * f rel.goal))
 
+  -- the candidate is a relation of these under a choice of its goal
+  pub record IsStepOfSome (c : ℕ) (rest : ℕ → List ℕ) (rels : List Rel) (x : Candidate) : Type 0 where
+    pub rel : Rel
+    pub here : slice_get rels x.number ≡ Some rel
+    pub choices : ℕ
+    pub later : List ℕ
+    pub shape : rest rel.goal ≡ choices ∷ later
+    pub is : IsCandidate c rel x.number choices x
+
   -- the candidates of the relations
   pub record AreOfRels (c : ℕ) (rest : ℕ → List ℕ) (rels : List Rel) (list : List Candidate) : Type 0 where
-    pub each : (j : ℕ) (x : Candidate) → slice_get list j ≡ Some x
-        → (rel : Rel) × (slice_get rels x.number ≡ Some rel) × ((n : ℕ) × (later : List ℕ) × (rest rel.goal ≡ n ∷ later) × IsCandidate c rel x.number n x)
+    pub each : (j : ℕ) (x : Candidate) → slice_get list j ≡ Some x → IsStepOfSome c rest rels x
     pub offers : (k : ℕ) (rel : Rel) (d n : ℕ) (later : List ℕ) → slice_get rels k ≡ Some rel → rest rel.goal ≡ n ∷ later → d < n → Offers c rel d list
+
+  -- a relation with this number leads to the same nodes on both sides under this choice of its goal
+  pub record IsOwnOf (c : ℕ) (rest : ℕ → List ℕ) (rels : List Rel) (own : Own) : Type 0 where
+    pub rel : Rel
+    pub here : slice_get rels own.number ≡ Some rel
+    pub choices : ℕ
+    pub later : List ℕ
+    pub shape : rest rel.goal ≡ choices ∷ later
+    pub choice : own.choice < choices
+    pub same : IsOwn table c own.choice rel.pairs
+
+-- the relations of candidates, with no places
+abbrev pub macro_of : List Candidate → Macro
+macro_of list = record { domain = []; rels = map (λ (x : Candidate). x.rel) list }
+
+module _ {L : Type 0} (parts : L → List Amplitude) (table : List (Node L)) where
+  -- the candidates are relations under choice c, and nothing of what the macro says is lost with them alone
+  pub record Suffice (c : ℕ) (rest below : ℕ → List ℕ) (m : Macro) (list : List Candidate) : Type 0 where
+    pub each : (j : ℕ) (x : Candidate) → slice_get list j ≡ Some x → IsStepOfSome table c rest m.rels x
+    pub keeps : (n : ℕ) (left : List ℕ) → IsOfLevel table (n ∷ left) rest m → c < n → Keeps parts table c left rest below m (macro_of list)
+    pub light : sum_by (λ (x : Candidate). rel_weight below x.rel) list ≤ 2 * sum_by (rel_weight rest) m.rels
 
   -- the macro under a choice, and where its relations come from
   pub record IsStepped (c : ℕ) (rest below : ℕ → List ℕ) (m : Macro) (s : Stepped) : Type 0 where
     pub edge : IsEdge table c rest m s.to s.from
-    pub back : IsBack table c rest m s.to
+    pub back : IsBack table c m s.to
+    pub keeps : (n : ℕ) (left : List ℕ) → IsOfLevel table (n ∷ left) rest m → c < n → Keeps parts table c left rest below m s.to
     pub light : weight below s.to ≤ 2 * weight rest m

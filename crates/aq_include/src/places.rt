@@ -2,7 +2,9 @@
 ghost use Rattle.std.specs.Prelude.{◌≡◌, ◌≤◌, ◌<◌, ◌↔◌, ◌+◌, ◌*◌, ◌++◌, ℕ, List, length, Contains, IfOk, IfSome};
 ghost use Rattle.std.specs.Prelude.{OnOk, slice_get, Some, IsTrue};
 ghost use Rattle.aq_store.specs.Nodes.{pairs_at};
-ghost use Rattle.aq_include.specs.Steps.{children_of, pair_children_of};
+ghost use Rattle.std.specs.List.{AllZip};
+ghost use Rattle.aq_include.specs.declared.places.Opened.{Opened};
+ghost use Rattle.aq_include.specs.Steps.{children_of, opened_children_of, IsOpened};
 ghost use Rattle.aq_include.specs.Members.{HasSame};
 
 use aq_label::Label;
@@ -80,24 +82,51 @@ pub(crate) fn children<L: Label>(
     Ok(list)
 }
 
-/// The children of pairs under a choice of the left and one of the goal.
-pub(crate) fn pair_children<L: Label>(
+/// A pair whose left children were read.
+#[derive(Clone, Copy, Debug)]
+pub(crate) struct Opened {
+    pub(crate) first: u32,
+    pub(crate) second: u32,
+    pub(crate) right: u32,
+}
+
+/// The pairs with the left children under a choice.
+pub(crate) fn open_pairs<L: Label>(
     store: &Store<L>,
     alloc: Global,
     pairs: &[(u32, u32)],
     choice: u32,
-    goal_choice: u32,
-) -> Result<Vec<(u32, u32)>, AllocError>
-    requires { (p : ℕ × ℕ) → Contains pairs.now p → (choice < length (pairs_at store.now p.0)) × (goal_choice < length
-        (pairs_at store.now p.1)) }
-    ensures { IfOk result (λ list. list.items ≡ pair_children_of store.now choice goal_choice pairs.now) }
+) -> Result<Vec<Opened>, AllocError>
+    requires { (p : ℕ × ℕ) → Contains pairs.now p → choice < length (pairs_at store.now p.0) }
+    ensures { IfOk result (λ list. AllZip (IsOpened store.now choice) pairs.now list.items) }
 {
     let mut list = Vec::new(alloc);
     for (left, right) in pairs {
-        let (left_first, left_second) = store.pair(Id::at(*left), choice);
-        let (right_first, right_second) = store.pair(Id::at(*right), goal_choice);
-        list.push((left_first.place(), right_first.place()))?;
-        list.push((left_second.place(), right_second.place()))?;
+        let (first, second) = store.pair(Id::at(*left), choice);
+        list.push(Opened {
+            first: first.place(),
+            second: second.place(),
+            right: *right,
+        })?;
+    }
+    Ok(list)
+}
+
+/// The children of opened pairs under a choice of the goal.
+pub(crate) fn pair_children<L: Label>(
+    store: &Store<L>,
+    alloc: Global,
+    pairs: &[Opened],
+    choice: u32,
+) -> Result<Vec<(u32, u32)>, AllocError>
+    requires { (o : Opened) → Contains pairs.now o → choice < length (pairs_at store.now o.right) }
+    ensures { IfOk result (λ list. list.items ≡ opened_children_of store.now choice pairs.now) }
+{
+    let mut list = Vec::new(alloc);
+    for pair in pairs {
+        let (first, second) = store.pair(Id::at(pair.right), choice);
+        list.push((pair.first, first.place()))?;
+        list.push((pair.second, second.place()))?;
     }
     Ok(list)
 }

@@ -1,8 +1,10 @@
 //! The search: depth first, in the order of words, up to the first that escapes.
 ghost use Rattle.std.specs.Prelude.{◌≡◌, ◌<◌, ◌≤◌, ◌+◌, ◌*◌, ◌^◌, ℕ, List, ◌∷◌, length, drop, slice_index, IfOk, IfErr};
+ghost use Rattle.std.specs.Prelude.{OnOk};
 ghost use Rattle.aq_cert.specs.Macros.{IsOfLevel};
 ghost use Rattle.aq_cert.specs.Goals.{goal_rest};
 ghost use Rattle.aq_cert.specs.Held.{IsHeld};
+ghost use Rattle.aq_cert.specs.Placed.{StandsAt, AllStand};
 ghost use Rattle.aq_include.specs.Costs.{Takes, IsCause, weight, size, budget, turn_budget};
 ghost use Rattle.aq_include.specs.Ends.{StopsWide};
 ghost use Rattle.aq_include.specs.Search.{IsTable, Finds, Follows, GrowsWith, GrowsBy};
@@ -76,10 +78,13 @@ fn finish<L: Label>(
 ) -> Result<Found, Stop<L>>
     requires level { level ≡ length left.now.shape.items }
     requires here { IsOfLevel store.now (drop level left.now.shape.items) (goal_rest goals.now level) here }
+    requires stands { StandsAt store.now left.now goals.now level here }
     requires table { IsTable L.parts store.now left.now.shape.items goals.now table.old }
+    requires rows { AllStand store.now left.now goals.now table.old.macros.items }
     ensures finds { IfOk result (λ f. Finds L.parts store.now left.now.shape.items goals.now level here
         table.old table.new
         f) }
+    ensures rows { OnOk result (AllStand store.now left.now goals.now table.new.macros.items) }
     ensures size { IfOk result (λ f. GrowsWith (size here) table.old table.new steps.old steps.new f) }
     ensures wide { IfErr result (λ e. StopsWide L.parts store.now here e) }
     ensures takes { Takes (weight (goal_rest goals.now level) here) steps.old steps.new }
@@ -112,10 +117,13 @@ pub(crate) fn visit<L: Label>(
     requires few { length left.now.shape.items < 2 ^ 32 }
     requires level { level ≤ length left.now.shape.items }
     requires here { IsOfLevel store.now (drop level left.now.shape.items) (goal_rest goals.now level) here }
+    requires stands { StandsAt store.now left.now goals.now level here }
     requires table { IsTable L.parts store.now left.now.shape.items goals.now table.old }
+    requires rows { AllStand store.now left.now goals.now table.old.macros.items }
     ensures finds { IfOk result (λ f. Finds L.parts store.now left.now.shape.items goals.now level here
         table.old table.new
         f) }
+    ensures rows { OnOk result (AllStand store.now left.now goals.now table.new.macros.items) }
     ensures size { IfOk result (λ f. GrowsWith (size here) table.old table.new steps.old steps.new f) }
     ensures wide { IfErr result (λ e. StopsWide L.parts store.now here e) }
     ensures takes { Takes (budget (drop level left.now.shape.items) (weight (goal_rest goals.now level) here)) steps.old
@@ -168,12 +176,15 @@ fn follow<L: Label>(
     requires level { level < length left.now.shape.items }
     requires choice { choice < slice_index (drop level left.now.shape.items) 0 }
     requires here { IsOfLevel store.now (drop level left.now.shape.items) (goal_rest goals.now level) here.now }
+    requires stands { StandsAt store.now left.now goals.now level here.now }
     requires table { IsTable L.parts store.now left.now.shape.items goals.now table.old }
+    requires rows { AllStand store.now left.now goals.now table.old.macros.items }
     requires before { (d : ℕ) (word : List ℕ) → d < choice → IsHeld L.parts store.now
         (goal_rest goals.now level) here.now (d
         ∷ word) }
     ensures follows { IfOk result (λ f. Follows L.parts store.now left.now.shape.items goals.now level choice here.now
         table.old table.new f) }
+    ensures rows { OnOk result (AllStand store.now left.now goals.now table.new.macros.items) }
     ensures size { IfOk result (λ f. GrowsBy table.old table.new steps.old steps.new f) }
     ensures wide { IfErr result (λ e. StopsWide L.parts store.now here.now e) }
     ensures takes { Takes (turn_budget (drop (level + 1) left.now.shape.items) (weight (goal_rest goals.now level)

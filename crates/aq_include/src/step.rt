@@ -1,6 +1,7 @@
 //! The macro under a choice.
 ghost use Rattle.std.specs.Prelude.{◌≡◌, ◌≤◌, ◌<◌, ◌+◌, ◌*◌, ℕ, List, length, map, drop, sum_by, Contains, IfOk};
 ghost use Rattle.std.specs.Prelude.{IfErr, OnOk, slice_get, slice_index, Some, IsTrue};
+ghost use Rattle.std.specs.List.{AllZip};
 ghost use Rattle.aq_store.specs.Count.{after};
 ghost use Rattle.aq_store.specs.Nodes.{pairs_at, HasShape};
 ghost use Rattle.aq_cert.specs.Macros.{IsOfLevel};
@@ -8,11 +9,17 @@ ghost use Rattle.aq_cert.specs.Goals.{goal_rest};
 ghost use Rattle.aq_include.specs.Costs.{Takes, IsCause, rel_weight, weight, size};
 ghost use Rattle.aq_include.specs.Ends.{IsNotWide};
 ghost use Rattle.aq_include.specs.Levels.{HasLevel};
-ghost use Rattle.aq_include.specs.Candidates.{AreChildren, ArePairChildren, AreOfRel, AreOfRels, HasRel, IsStepped};
-ghost use Rattle.aq_include.specs.Candidates.{Thins};
+ghost use Rattle.aq_include.specs.declared.places.Opened.{Opened};
+ghost use Rattle.aq_include.specs.Members.{HasSame};
+ghost use Rattle.aq_include.specs.Steps.{opened_children_of, IsOpened};
+ghost use Rattle.aq_include.specs.Candidates.{AreChildren, IsCandidateAt, AreOfRel, AreOfRels, HasRel, IsStepped};
+ghost use Rattle.aq_include.specs.Candidates.{Thins, IsOwnOf, Suffice};
 
+use crate::own::{Own, find_own};
 use crate::pay::pay;
-use crate::places::{children, pair_children, same_pairs, tidy_pairs, tidy_places};
+use crate::places::{
+    Opened, children, open_pairs, pair_children, same_pairs, tidy_pairs, tidy_places,
+};
 use aq_cert::{Macro, Rel};
 use aq_label::Label;
 use aq_store::{Lsta, Steps, Stop, Store};
@@ -57,31 +64,60 @@ fn step_domain<L: Label>(
     Ok(tidy_places(list))
 }
 
-/// The pairs under a choice of the left and one of the goal.
+/// The pairs under a choice of the goal.
 fn step_pairs<L: Label>(
     store: &Store<L>,
     alloc: Global,
-    pairs: &[(u32, u32)],
+    pairs: &[Opened],
     choice: u32,
-    goal_choice: u32,
     steps: &mut Steps,
 ) -> Result<Items<(u32, u32)>, Stop<L>>
-    requires { (p : ℕ × ℕ) → Contains pairs.now p → (choice < length (pairs_at store.now p.0)) × (goal_choice < length
-        (pairs_at store.now p.1)) }
-    ensures children { IfOk result (λ list. ArePairChildren store.now choice goal_choice pairs.now list) }
+    requires { (o : Opened) → Contains pairs.now o → choice < length (pairs_at store.now o.right) }
+    ensures same { IfOk result (λ list. HasSame list (opened_children_of store.now choice pairs.now)) }
+    ensures short { IfOk result (λ list. length list ≤ length (opened_children_of store.now choice pairs.now)) }
     ensures paid { OnOk result (steps.new ≡ after (length pairs.now) steps.old) }
     ensures wide { IfErr result IsNotWide }
     ensures takes { Takes (length pairs.now) steps.old steps.new }
     ensures spent { IfErr result (λ e. IsCause (length pairs.now) steps.old e) }
 {
     pay::<L>(steps, pairs.len())?;
-    let Ok(list) = pair_children(store, alloc, pairs, choice, goal_choice) else {
+    let Ok(list) = pair_children(store, alloc, pairs, choice) else {
         return Err(Stop::Memory);
     };
     let Ok(list) = tidy_pairs(alloc, list) else {
         return Err(Stop::Memory);
     };
     Ok(list)
+}
+
+/// A relation under a choice of the left and one of its goal.
+fn step_choice<L: Label>(
+    store: &Store<L>,
+    alloc: Global,
+    rel: &Rel,
+    opened: &[Opened],
+    number: u32,
+    choice: u32,
+    steps: &mut Steps,
+) -> Result<Candidate, Stop<L>>
+    requires within { (o : Opened) → Contains opened.now o → choice < length (pairs_at store.now o.right) }
+    requires count { length opened.now ≡ length rel.now.pairs }
+    ensures candidate { IfOk result (λ x. (c : ℕ) → AllZip (IsOpened store.now c) rel.now.pairs opened.now →
+        IsCandidateAt store.now c rel.now number choice x) }
+    ensures paid { OnOk result (steps.new ≡ after (length rel.now.pairs) steps.old) }
+    ensures wide { IfErr result IsNotWide }
+    ensures takes { Takes (length rel.now.pairs) steps.old steps.new }
+    ensures spent { IfErr result (λ e. IsCause (length rel.now.pairs) steps.old e) }
+{
+    let pairs = step_pairs(store, alloc, opened, choice, steps)?;
+    Ok(Candidate {
+        rel: Rel {
+            goal: rel.goal,
+            pairs,
+        },
+        number,
+        choice,
+    })
 }
 
 /// A relation under a choice of the left, for each choice of its goal.
@@ -103,33 +139,72 @@ fn step_rel<L: Label>(
     ensures spent { IfErr result (λ e. IsCause (count * length rel.now.pairs) steps.old e) }
 {
     let _taken = steps.taken();
+    let Ok(opened) = open_pairs(store, alloc, rel.pairs.as_slice(), choice) else {
+        return Err(Stop::Memory);
+    };
     let mut list = Vec::new(alloc);
     for goal_choice in 0..count {
-        let pairs = step_pairs(
+        let next = step_choice(
             store,
             alloc,
-            rel.pairs.as_slice(),
-            choice,
+            rel,
+            opened.as_slice(),
+            number,
             goal_choice,
             steps,
         )?;
-        let candidate = Candidate {
-            rel: Rel {
-                goal: rel.goal,
-                pairs,
-            },
-            number,
-            choice: goal_choice,
-        };
-        let Ok(()) = list.push(candidate) else {
+        let Ok(()) = list.push(next) else {
             return Err(Stop::Memory);
         };
     }
     Ok(list)
 }
 
+/// The one relation that leads to the same nodes on both sides.
+fn step_own<L: Label>(
+    store: &Store<L>,
+    alloc: Global,
+    here: &Macro,
+    goals: &[Lsta],
+    level: u32,
+    choice: u32,
+    own: Own,
+    steps: &mut Steps,
+) -> Result<Vec<Candidate>, Stop<L>>
+    requires here { (left : List ℕ) × IsOfLevel store.now left (goal_rest goals.now level) here.now × (choice <
+        slice_index left 0) }
+    requires own { IsOwnOf store.now choice (goal_rest goals.now level) here.now.rels own }
+    ensures suffice { IfOk result (λ list. Suffice L.parts store.now choice (goal_rest goals.now level) (goal_rest
+        goals.now (level + 1)) here.now list.items) }
+    ensures paid { IfOk result (λ list. sum_by (λ x. length x.rel.pairs) list.items + 2 * steps.old.taken ≤ 2 *
+        steps.new.taken) }
+    ensures wide { IfErr result IsNotWide }
+    ensures takes { Takes (sum_by (rel_weight (goal_rest goals.now level)) here.now.rels) steps.old steps.new }
+    ensures spent { IfErr result (λ e. IsCause (sum_by (rel_weight (goal_rest goals.now level)) here.now.rels) steps.old
+        e) }
+{
+    let rel = &here.rels.as_slice()[own.number as usize];
+    let Ok(opened) = open_pairs(store, alloc, rel.pairs.as_slice(), choice) else {
+        return Err(Stop::Memory);
+    };
+    let only = step_choice(
+        store,
+        alloc,
+        rel,
+        opened.as_slice(),
+        own.number,
+        own.choice,
+        steps,
+    )?;
+    let mut list = Vec::new(alloc);
+    let Ok(()) = list.push(only) else {
+        return Err(Stop::Memory);
+    };
+    Ok(list)
+}
+
 /// How many choices a goal has at a level.
-fn goal_choices(goals: &[Lsta], goal: u32, level: u32) -> u32
+pub(crate) fn goal_choices(goals: &[Lsta], goal: u32, level: u32) -> u32
     requires { HasLevel goals.now level goal }
     ensures { result ≡ slice_index (goal_rest goals.now level goal) 0 }
 {
@@ -219,6 +294,38 @@ fn thin(alloc: Global, list: Vec<Candidate>) -> Result<Vec<Candidate>, AllocErro
     Ok(kept)
 }
 
+/// The relations under a choice, without repeats. Where one leads to the same nodes on both sides, it is that one
+/// alone.
+fn step_each<L: Label>(
+    store: &Store<L>,
+    alloc: Global,
+    here: &Macro,
+    goals: &[Lsta],
+    level: u32,
+    choice: u32,
+    steps: &mut Steps,
+) -> Result<Vec<Candidate>, Stop<L>>
+    requires { (left : List ℕ) × IsOfLevel store.now left (goal_rest goals.now level) here.now × (choice < slice_index
+        left 0) }
+    ensures suffice { IfOk result (λ list. Suffice L.parts store.now choice (goal_rest goals.now level) (goal_rest
+        goals.now (level + 1)) here.now list.items) }
+    ensures paid { IfOk result (λ list. sum_by (λ x. length x.rel.pairs) list.items + 2 * steps.old.taken ≤ 2 *
+        steps.new.taken) }
+    ensures wide { IfErr result IsNotWide }
+    ensures takes { Takes (sum_by (rel_weight (goal_rest goals.now level)) here.now.rels) steps.old steps.new }
+    ensures spent { IfErr result (λ e. IsCause (sum_by (rel_weight (goal_rest goals.now level)) here.now.rels) steps.old
+        e) }
+{
+    if let Some(own) = find_own(store, here, goals, level, choice) {
+        return step_own(store, alloc, here, goals, level, choice, own, steps);
+    }
+    let list = step_rels(store, alloc, here, goals, level, choice, steps)?;
+    let Ok(kept) = thin(alloc, list) else {
+        return Err(Stop::Memory);
+    };
+    Ok(kept)
+}
+
 /// The macro of these relations.
 fn gather(alloc: Global, domain: Items<u32>, list: Vec<Candidate>) -> Result<Stepped, AllocError>
     ensures domain { IfOk result (λ s. s.to.domain ≡ domain) }
@@ -249,9 +356,8 @@ pub(crate) fn step<L: Label>(
 ) -> Result<Stepped, Stop<L>>
     requires { (left : List ℕ) × IsOfLevel store.now left (goal_rest goals.now level) here.now × (choice < slice_index
         left 0) }
-    ensures stepped { IfOk result (λ s. IsStepped store.now choice (goal_rest goals.now level)
-        (goal_rest goals.now (level +
-        1)) here.now s) }
+    ensures stepped { IfOk result (λ s. IsStepped L.parts store.now choice (goal_rest goals.now level) (goal_rest
+        goals.now (level + 1)) here.now s) }
     ensures size { IfOk result (λ s. size s.to + 2 * steps.old.taken ≤ 2 * steps.new.taken) }
     ensures wide { IfErr result IsNotWide }
     ensures takes { Takes (weight (goal_rest goals.now level) here.now) steps.old steps.new }
@@ -259,10 +365,7 @@ pub(crate) fn step<L: Label>(
 {
     let _taken = steps.taken();
     let domain = step_domain(store, alloc, here.domain.as_slice(), choice, steps)?;
-    let list = step_rels(store, alloc, here, goals, level, choice, steps)?;
-    let Ok(list) = thin(alloc, list) else {
-        return Err(Stop::Memory);
-    };
+    let list = step_each(store, alloc, here, goals, level, choice, steps)?;
     let Ok(stepped) = gather(alloc, domain, list) else {
         return Err(Stop::Memory);
     };

@@ -1,14 +1,14 @@
-use Rattle.std.proofs.Common.{◌≡◌, ℕ, length, subst, arith}
+use Rattle.std.proofs.Common.{◌≡◌, ℕ, length, sym, subst, arith}
 use Rattle.aq_cert.specs.Goals.{goal_rest}
-use Rattle.aq_cert.specs.Placed.{ArePlaced}
+use Rattle.aq_cert.specs.Placed.{ArePlaced, AllStand}
 use Rattle.aq_include.specs.Costs.{IsCause, weight, size}
 use Rattle.aq_include.specs.Answers.{IsFresh, StopsFor, search_budget}
 use Rattle.aq_include.specs.Search.{Finds, GrowsWith}
 use Rattle.aq_include.proofs.Passed.{passed}
-use Rattle.aq_include.proofs.TurnLemmas.{takes-within, cause-within}
+use Rattle.aq_include.proofs.CostLemmas.{takes-within, cause-within}
 use Rattle.aq_include.proofs.LeastLemmas.{least-escape}
 use Rattle.aq_include.proofs.SizeLemmas.{cert-paid}
-use Rattle.aq_include.proofs.IncludeLemmas.{whole-root, root-level, fresh-table, certified, wide-inclusion, budget-within}
+use Rattle.aq_include.proofs.IncludeLemmas.{whole-root, root-level, fresh-table, certified, wide-inclusion, budget-within, root-stands, none-stand}
 use Rattle.aq_include.proofs.inclusion.include.Goals as goal
 
 pub visit-requires-clause-here : goal.visit-requires-clause-here
@@ -20,6 +20,16 @@ visit-requires-clause-table g c =
     let n : c.len-2.result ≡ length c.args.left.now.shape.items = omega (arith, c.len-2.ensures, c.args.left.now.shape.ok.0) in
     let fresh = subst (λ (z : ℕ). IsFresh z c.in-Ok-new.table) n c.in-Ok-new.ensures in
     fresh-table g.L.Label.parts c.args.store.now c.args.left.now.shape.items c.args.goals.now c.in-Ok-new.table fresh
+
+pub visit-requires-clause-stands : goal.visit-requires-clause-stands
+visit-requires-clause-stands g c =
+    root-stands g.L.Label.parts c.args.store.now c.args.left.now c.args.goals.now c.in-Ok-root_macro.root (whole-root c.args.left.now c.args.goals.now c.in-Ok-root_macro.root c.in-Ok-root_macro.ensures.domain c.in-Ok-root_macro.ensures.rels c.in-Ok-root_macro.ensures.count)
+
+pub visit-requires-clause-rows : goal.visit-requires-clause-rows
+visit-requires-clause-rows g c = none-stand g.L.Label.parts c.args.store.now c.len-2.result c.args.left.now c.args.goals.now c.in-Ok-new.table c.in-Ok-new.ensures
+
+pub with_places-requires-clause-stand : goal.with_places-requires-clause-stand
+with_places-requires-clause-stand g c = subst (AllStand c.args.store.now c.args.left.now c.args.goals.now) (sym c.as_slice.ensures.value) c.in_ok-visit.ensures.rows
 
 pub returns-in_err-visit-clause-wide : goal.returns-in_err-visit-clause-wide
 returns-in_err-visit-clause-wide g c =

@@ -9,6 +9,7 @@ use Rattle.aq_include.specs.Search.{Finds, Follows, GrowsWith, GrowsBy}
 use Rattle.aq_include.proofs.Passed.{passed}
 use Rattle.aq_include.proofs.TurnLemmas.{not-wide, stops-back, step-takes, step-cause, stepped-level, least-turn, end-budget, earlier-hold, turns-take, turns-cause, turn-takes, all-turns}
 use Rattle.aq_include.proofs.SizeLemmas.{size-push}
+use Rattle.aq_include.proofs.StandLemmas.{step-stands, stand-push}
 use Rattle.aq_include.proofs.SearchLemmas.{extends-refl, extends-trans, leads-push, table-add, reached-from}
 use Rattle.aq_include.proofs.search.+search.Goals as goal
 
@@ -19,7 +20,8 @@ follow-returns-in_err-stepped-clause-wide g t c =
 
 pub follow-visit-requires : goal.follow-visit-requires
 follow-visit-requires g t c κs within =
-    let here = stepped-level c.args.store.now c.args.left.now.shape.items c.args.goals.now c.args.level c.args.choice c.args.here.now c.in_ok-stepped.stepped c.requires.level c.requires.here c.in_ok-stepped.ensures.stepped in
+    let here = stepped-level c.args.store.now g.L.Label.parts c.args.left.now.shape.items c.args.goals.now c.args.level c.args.choice c.args.here.now c.in_ok-stepped.stepped c.requires.level c.requires.here c.in_ok-stepped.ensures.stepped in
+    let stands = step-stands c.args.store.now c.args.left.now c.args.goals.now c.args.level c.args.choice c.args.here.now c.in_ok-stepped.stepped.to c.requires.level c.requires.here c.requires.stands c.in_ok-stepped.ensures.stepped.back in
     search rules
 
 pub follow-returns-in_err-to-clause-wide : goal.follow-returns-in_err-to-clause-wide
@@ -114,6 +116,7 @@ visit-loop-choice-preserved g t c =
     let items = c.in-Ok.ensures.ok in
     record {
       table = f.grown;
+      rows = c.in_ok-edge.ensures.rows;
       keeps = extends-trans c.args.table.now c.loop-choice.table c.follow.new.table c.loop-choice.invariant.keeps f.keeps;
       upper = λ k less. f.upper k less ∙ c.loop-choice.invariant.upper k less;
       count = ap (λ (l : List Edge). length l) items ∙ length-append c.loop-choice.edges (c.in-Leads.edge ∷ []) ∙ ap (λ z. z + 1) c.loop-choice.invariant.count;
@@ -159,3 +162,7 @@ pub follow-returns-in-Reached-clause-size : goal.follow-returns-in-Reached-claus
 follow-returns-in-Reached-clause-size g t c =
     let grown = subst (λ f. GrowsWith (size c.in_ok-stepped.stepped.to) c.args.table.now c.visit.new.table c.step.new.steps c.visit.new.steps f) c.in-Reached.is c.in_ok-to.ensures.size in
     omega (arith, grown, c.in_ok-stepped.ensures.size)
+
+pub visit-returns-clause-rows : goal.visit-returns-clause-rows
+visit-returns-clause-rows g t c =
+    stand-push c.args.store.now c.args.left.now c.args.goals.now c.args.level c.in-Ok-add.number c.args.here c.loop-choice.table.macros.items c.add.new.self.macros.items c.loop-choice.invariant.rows c.requires.stands c.in-Ok-add.ensures.macros

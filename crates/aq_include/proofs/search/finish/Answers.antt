@@ -8,7 +8,9 @@ use Rattle.aq_cert.proofs.HeldLemmas.{end-holds}
 use Rattle.aq_include.proofs.Passed.{passed}
 use Rattle.aq_include.proofs.SizeLemmas.{size-push}
 use Rattle.aq_include.proofs.SearchLemmas.{table-end}
-use Rattle.aq_include.proofs.TurnLemmas.{ends-cheap, takes-within, cause-within, least-end}
+use Rattle.aq_include.proofs.StandLemmas.{stand-push}
+use Rattle.aq_include.proofs.TurnLemmas.{ends-cheap, least-end}
+use Rattle.aq_include.proofs.CostLemmas.{takes-within, cause-within}
 use Rattle.aq_include.proofs.search.finish.Goals as goal
 
 pub returns-in_err-end-clause-takes : goal.returns-in_err-end-clause-takes
@@ -63,3 +65,7 @@ pub returns-in-Ok-clause-size : goal.returns-in-Ok-clause-size
 returns-in-Ok-clause-size g c =
     let pushed = size-push c.args.level c.in-Ok.number c.args.here c.args.table.now c.add_last.new.self (omega (arith, c.requires.level, c.requires.table.even.rows)) c.in-Ok.ensures.macros in
     omega (arith, pushed, c.find_end.ensures.takes.later)
+
+pub returns-in-Ok-clause-rows : goal.returns-in-Ok-clause-rows
+returns-in-Ok-clause-rows g c =
+    stand-push c.args.store.now c.args.left.now c.args.goals.now c.args.level c.in-Ok.number c.args.here c.args.table.now.macros.items c.add_last.new.self.macros.items c.requires.rows c.requires.stands c.in-Ok.ensures.macros

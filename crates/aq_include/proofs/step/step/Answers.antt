@@ -1,7 +1,8 @@
-use Rattle.std.proofs.Common.{◌+◌, ℕ, List, Contains, subst}
+use Rattle.std.proofs.Common.{◌+◌, ℕ, List, length, Contains, ap, subst}
+use Rattle.aq_store.specs.Count.{Count}
 use Rattle.aq_cert.specs.Goals.{goal_rest}
 use Rattle.aq_include.specs.Candidates.{AreChildren}
-use Rattle.aq_include.proofs.StepLemmas.{domain-pairs, stepped}
+use Rattle.aq_include.proofs.StepLemmas.{domain-pairs, stepped, stepped-size}
 use Rattle.aq_include.proofs.step.step.Goals as goal
 
 pub step_domain-requires : goal.step_domain-requires
@@ -11,6 +12,11 @@ step_domain-requires g c = λ x listed.
 
 pub returns-clause-stepped : goal.returns-clause-stepped
 returns-clause-stepped g c =
-    stepped c.args.store.now c.args.choice (goal_rest c.args.goals.now c.args.level) (goal_rest c.args.goals.now (c.args.level + 1)) c.args.here.now c.in_ok-domain.domain c.in_ok-list.list.items c.in-Ok.list.items c.in-Ok-gather.stepped
+    stepped g.L.Label.parts c.args.store.now c.args.choice (goal_rest c.args.goals.now c.args.level) (goal_rest c.args.goals.now (c.args.level + 1)) c.args.here.now c.in_ok-domain.domain c.in_ok-list.list.items c.in-Ok.stepped
     (subst (λ (l : List ℕ). AreChildren c.args.store.now c.args.choice l c.in_ok-domain.domain) c.as_slice.ensures c.in_ok-domain.ensures.children)
-    c.in_ok-list.ensures.candidates c.in-Ok.ensures c.in_ok-list.ensures.light c.in-Ok-gather.ensures.domain c.in-Ok-gather.ensures.rels c.in-Ok-gather.ensures.from
+    c.in_ok-list.ensures.suffice c.in-Ok.ensures.domain c.in-Ok.ensures.rels c.in-Ok.ensures.from
+
+pub returns-clause-size : goal.returns-clause-size
+returns-clause-size g c =
+    stepped-size c.in_ok-domain.domain c.in_ok-list.list.items c.in-Ok.stepped (length c.as_slice.result.now) c.step_domain.new.steps.taken c.step_each.new.steps.taken c.in_ok-domain.ensures.children.short
+    c.in_ok-list.ensures.paid c.in-Ok.ensures.domain c.in-Ok.ensures.rels c.args.steps.now.taken (ap (λ (x : Count). x.taken) c.in_ok-domain.ensures.paid)

@@ -1,41 +1,53 @@
-use Rattle.std.proofs.Common.{◌*◌, ℕ, List, length, Contains, refl, ap, subst, ◌∙◌, arith}
-use Rattle.aq_store.specs.Count.{after}
-use Rattle.aq_include.specs.declared.step.Candidate.{Candidate}
-use Rattle.aq_include.specs.Costs.{Takes, IsCause}
-use Rattle.aq_include.specs.Candidates.{ArePairChildren}
+use Rattle.std.proofs.Common.{◌≡◌, ◌*◌, ℕ, List, length, Contains, sym, ap, subst, ◌∙◌, arith}
+use Rattle.std.specs.List.{AllZip}
+use Rattle.aq_cert.proofs.ReadLemmas.{zip-length}
+use Rattle.aq_include.specs.declared.places.Opened.{Opened}
+use Rattle.aq_include.specs.Costs.{IsCause}
+use Rattle.aq_include.specs.Steps.{IsOpened}
 use Rattle.aq_include.proofs.Passed.{passed}
-use Rattle.aq_include.proofs.CandidateLemmas.{of-rel-push, takes-at, cause-at, after-more}
+use Rattle.aq_include.proofs.ChildLemmas.{opened-within}
+use Rattle.aq_include.proofs.CandidateLemmas.{of-rel-push, takes-at, cause-at, takes-none, after-more}
 use Rattle.aq_include.proofs.step.step_rel.Goals as goal
 
-pub step_pairs-requires : goal.step_pairs-requires
-step_pairs-requires g c = λ p listed.
-    let r = c.requires p (subst (λ (l : List (ℕ × ℕ)). Contains l p) c.as_slice.ensures listed) in
-    (r.0, omega (arith, r.1, c.loop-goal_choice-test.true))
+pub step_choice-requires-clause-within : goal.step_choice-requires-clause-within
+step_choice-requires-clause-within g c = λ o listed.
+    opened-within c.args.store.now c.args.choice c.loop-goal_choice.goal_choice c.args.rel.now.pairs c.in-Ok.opened.items
+    (subst (λ (l : List (ℕ × ℕ)). AllZip (IsOpened c.args.store.now c.args.choice) l c.in-Ok.opened.items) c.as_slice.ensures c.in-Ok.ensures)
+    (λ p there. let r = c.requires p there in omega (arith, r.1, c.loop-goal_choice-test.true))
+    o (subst (λ (l : List Opened). Contains l o) c.as_slice-in-loop-goal_choice.ensures.value listed)
 
-pub returns-in_err-pairs-clause-takes : goal.returns-in_err-pairs-clause-takes
-returns-in_err-pairs-clause-takes g c =
-    takes-at c.loop-goal_choice.goal_choice c.args.count (length c.args.rel.now.pairs) c.args.steps.now c.loop-goal_choice.steps c.step_pairs.new.steps c.loop-goal_choice-test.true
-    c.loop-goal_choice.invariant.steps (subst (λ (l : List (ℕ × ℕ)). Takes (length l) c.loop-goal_choice.steps c.step_pairs.new.steps) c.as_slice.ensures c.step_pairs.ensures.takes)
-
-pub returns-in_err-pairs-clause-spent : goal.returns-in_err-pairs-clause-spent
-returns-in_err-pairs-clause-spent g c =
-    passed (λ e. IsCause (c.args.count * length c.args.rel.now.pairs) c.args.steps.now e) c.from_residual.result c.in_err-pairs.field-0.0 c.from_residual.ensures
-    (cause-at c.loop-goal_choice.goal_choice c.args.count (length c.args.rel.now.pairs) c.args.steps.now c.loop-goal_choice.steps c.in_err-pairs.field-0.0 c.loop-goal_choice-test.true
-    c.loop-goal_choice.invariant.steps (subst (λ (l : List (ℕ × ℕ)). IsCause (length l) c.loop-goal_choice.steps c.in_err-pairs.field-0.0) c.as_slice.ensures c.in_err-pairs.ensures.spent))
+pub step_choice-requires-clause-count : goal.step_choice-requires-clause-count
+step_choice-requires-clause-count g c =
+    ap (λ (l : List Opened). length l) c.as_slice-in-loop-goal_choice.ensures.value
+    ∙ zip-length (IsOpened c.args.store.now c.args.choice) c.as_slice.result.now c.in-Ok.opened.items c.in-Ok.ensures ∙ ap (λ (l : List (ℕ × ℕ)). length l) c.as_slice.ensures
 
 pub returns-in_default-clause-takes : goal.returns-in_default-clause-takes
-returns-in_default-clause-takes g c =
-    takes-at c.loop-goal_choice.goal_choice c.args.count (length c.args.rel.now.pairs) c.args.steps.now c.loop-goal_choice.steps c.step_pairs.new.steps c.loop-goal_choice-test.true
-    c.loop-goal_choice.invariant.steps (subst (λ (l : List (ℕ × ℕ)). Takes (length l) c.loop-goal_choice.steps c.step_pairs.new.steps) c.as_slice.ensures c.step_pairs.ensures.takes)
+returns-in_default-clause-takes g c = takes-none (c.args.count * length c.args.rel.now.pairs) c.args.steps.now
+
+pub returns-in_err-next-clause-takes : goal.returns-in_err-next-clause-takes
+returns-in_err-next-clause-takes g c =
+    takes-at c.loop-goal_choice.goal_choice c.args.count (length c.args.rel.now.pairs) c.args.steps.now c.loop-goal_choice.steps c.step_choice.new.steps c.loop-goal_choice-test.true
+    c.loop-goal_choice.invariant.steps c.step_choice.ensures.takes
+
+pub returns-in_err-next-clause-spent : goal.returns-in_err-next-clause-spent
+returns-in_err-next-clause-spent g c =
+    passed (λ e. IsCause (c.args.count * length c.args.rel.now.pairs) c.args.steps.now e) c.from_residual.result c.in_err-next.field-0.0 c.from_residual.ensures
+    (cause-at c.loop-goal_choice.goal_choice c.args.count (length c.args.rel.now.pairs) c.args.steps.now c.loop-goal_choice.steps c.in_err-next.field-0.0 c.loop-goal_choice-test.true
+    c.loop-goal_choice.invariant.steps c.in_err-next.ensures.spent)
+
+pub returns-in_default-push-clause-takes : goal.returns-in_default-push-clause-takes
+returns-in_default-push-clause-takes g c =
+    takes-at c.loop-goal_choice.goal_choice c.args.count (length c.args.rel.now.pairs) c.args.steps.now c.loop-goal_choice.steps c.step_choice.new.steps c.loop-goal_choice-test.true
+    c.loop-goal_choice.invariant.steps c.step_choice.ensures.takes
 
 pub loop-goal_choice-preserved : goal.loop-goal_choice-preserved
 loop-goal_choice-preserved g c =
-    let x : Candidate = record { rel = record { goal = c.args.rel.now.goal; pairs = c.in_ok-pairs.pairs }; number = c.args.number; choice = c.loop-goal_choice.goal_choice } in
+    let zip : AllZip (IsOpened c.args.store.now c.args.choice) c.args.rel.now.pairs c.as_slice-in-loop-goal_choice.result.now =
+    subst (λ (l : List Opened). AllZip (IsOpened c.args.store.now c.args.choice) c.args.rel.now.pairs l) (sym c.as_slice-in-loop-goal_choice.ensures.value)
+    (subst (λ (l : List (ℕ × ℕ)). AllZip (IsOpened c.args.store.now c.args.choice) l c.in-Ok.opened.items) c.as_slice.ensures c.in-Ok.ensures) in
+    let at = c.in_ok-next.ensures.candidate c.args.choice zip in
     record {
-      candidates = of-rel-push c.args.store.now c.args.choice c.args.rel.now c.args.number c.args.count c.loop-goal_choice.goal_choice c.loop-goal_choice.list.items c.push.new.self.items x
-          c.loop-goal_choice-test.true c.loop-goal_choice.invariant.candidates refl refl refl
-          (subst (λ (l : List (ℕ × ℕ)). ArePairChildren c.args.store.now c.args.choice c.loop-goal_choice.goal_choice l c.in_ok-pairs.pairs) c.as_slice.ensures c.in_ok-pairs.ensures.children)
-          c.in-Ok.ensures.items;
-      steps = after-more c.loop-goal_choice.goal_choice (length c.args.rel.now.pairs) c.args.steps.now c.loop-goal_choice.steps c.step_pairs.new.steps c.loop-goal_choice.invariant.steps
-          (c.in_ok-pairs.ensures.paid ∙ ap (λ (l : List (ℕ × ℕ)). after (length l) c.loop-goal_choice.steps) c.as_slice.ensures);
+      candidates = of-rel-push c.args.store.now c.args.choice c.args.rel.now c.args.number c.args.count c.loop-goal_choice.goal_choice c.loop-goal_choice.list.items c.push.new.self.items c.in_ok-next.next
+          c.loop-goal_choice-test.true c.loop-goal_choice.invariant.candidates at.number_is at.same_goal at.choice_is at.pairs c.in-Ok-push.ensures.items;
+      steps = after-more c.loop-goal_choice.goal_choice (length c.args.rel.now.pairs) c.args.steps.now c.loop-goal_choice.steps c.step_choice.new.steps c.loop-goal_choice.invariant.steps c.in_ok-next.ensures.paid;
     }
