@@ -1,5 +1,5 @@
 -- Where words lead, side by side.
-use Rattle.std.proofs.Common.{◌≡◌, ℕ, zero, suc, ◌+◌, ◌-◌, ◌*◌, ◌<◌, ◌≤◌, cond, ltb, min, List, [], ◌∷◌, ◌++◌, length, take, drop, get_or, map, slice_get, Some, refl, sym, ap, ap₂, subst, ◌∙◌, arith}
+use Rattle.std.proofs.Common.{◌≡◌, ℕ, zero, suc, ◌+◌, ◌-◌, ◌*◌, ◌<◌, ◌≤◌, cond, ltb, min, List, [], ◌∷◌, ◌++◌, length, take, drop, get_or, map, slice_get, Some, refl, sym, ap, ap₂, ◌∙◌, arith}
 use Rattle.std.proofs.Math.Nat.{mul-le-mul_left}
 use Rattle.std.proofs.lemmas.List.{take-take, take_all, take_rest, drop-take, length-map, length-drop, length-take-le}
 use Rattle.std.proofs.lemmas.Option.{slice_get_within, get_or_from_slice_get}
@@ -183,9 +183,12 @@ module _ (exprs : List Expr) (valid : AreValidExprs exprs) where
   sides_told sizes e i l r at a b x y =
       let s = sides_long i l r at in
       let p = told_at exprs sizes l a e (let u = s.0 in let v = s.2 in omega arith) x in
-      let q = told_at exprs sizes r b e (let u = s.1 in let v = s.2 in omega arith) y in
-      (p, q, ap (λ (z : told.Size). length z.shape) p ∙ length-map (size_of exprs l).shape capped ∙ s.3,
-      ap (λ (z : told.Size). length z.shape) q ∙ length-map (size_of exprs r).shape capped ∙ s.4)
+      let q = told_at exprs sizes r b e (let u = s.1 in let v = s.2 in omega arith) y in (
+        p,
+        q,
+        ap (λ (z : told.Size). length z.shape) p ∙ length-map (size_of exprs l).shape capped ∙ s.3,
+        ap (λ (z : told.Size). length z.shape) q ∙ length-map (size_of exprs r).shape capped ∙ s.4,
+      )
 
   union_at : (i l r c : ℕ) (w : List ℕ) → slice_get exprs i ≡ Some (expr.Union l r) → place exprs i (c ∷ w) ≡ cond (ltb c (first_number (size_of exprs l).shape))
       (place exprs l (c ∷ shortened (lower (size_of exprs l).shape) w)) ((size_of exprs l).count + place exprs r ((c - first_number (size_of exprs l).shape) ∷ shortened (lower (size_of exprs r).shape) w))

@@ -1,4 +1,4 @@
-use Rattle.std.proofs.Common.{◌≡◌, sym, subst, IfSome, List, ℕ}
+use Rattle.std.proofs.Common.{sym, subst, IfSome, List, ℕ}
 use Rattle.aq_set_build.specs.Places.{Enters}
 use Rattle.aq_set_build.specs.declared.places.Side.{Side}
 use Rattle.aq_set_build.proofs.PlaceLemmas.{enters_self, enters_then}

@@ -1,4 +1,4 @@
-use Rattle.std.proofs.Common.{rules, ◌≡◌, ℕ, IfOk, length, sym, ap, subst, ◌∙◌, arith}
+use Rattle.std.proofs.Common.{rules, ◌≡◌, IfOk, length, sym, ap, subst, ◌∙◌}
 use Rattle.aq_sets.specs.Sizes.{size_of, place}
 use Rattle.aq_sets.specs.Caps.{capped}
 use Rattle.aq_sets.proofs.PlaceLaws.{length-word, has_places}

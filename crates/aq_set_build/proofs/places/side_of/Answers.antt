@@ -1,7 +1,7 @@
-use Rattle.std.proofs.Common.{rules, ◌≡◌, Some, ap, sym, subst, ◌∙◌, arith, slice_get, List, ℕ}
+use Rattle.std.proofs.Common.{Some, ap, sym, subst, ◌∙◌, List, ℕ}
 use Rattle.aq_sets.specs.declared.sets.Expr.TheVariants as expr
 use Rattle.aq_sets.proofs.ToldLaws.{expr_at}
-use Rattle.aq_set_build.specs.Places.{Enters, IsNoUnion}
+use Rattle.aq_set_build.specs.Places.{Enters}
 use Rattle.aq_set_build.proofs.PlaceLemmas.{enters_base, no_union_of, power_no_union}
 use Rattle.aq_set_build.proofs.places.side_of.Goals as goal
 use Rattle.aq_set_build.proofs.places.side_of.Goals.{in_default-via-in-Power+else-times-eq1, in_default-via-in_default}

@@ -1,5 +1,5 @@
-use Rattle.std.proofs.Common.{◌≡◌, ℕ, ◌+◌, ◌-◌, ◌<◌, ◌∷◌, List, map, arith, get_or}
-use Rattle.aq_sets.specs.Caps.{most_told, capped}
+use Rattle.std.proofs.Common.{◌<◌, arith, get_or}
+use Rattle.aq_sets.specs.Caps.{most_told}
 use Rattle.aq_set_build.proofs.PlaceLemmas.{cut_more}
 use Rattle.aq_set_build.proofs.places.side_word.Goals as goal
 

@@ -1,5 +1,4 @@
-use Rattle.std.proofs.Common.{rules, ◌≡◌, ℕ, ◌+◌, ◌-◌, ◌<◌, ◌≤◌, length, get_or, refl, sym, ap, arith, ◌∙◌}
-use Rattle.aq_sets.specs.Caps.{most_told, capped}
+use Rattle.std.proofs.Common.{rules, ◌-◌, ◌<◌, length, get_or, refl, ap, arith, ◌∙◌}
 use Rattle.aq_sets.proofs.ToldLaws.{length-told}
 use Rattle.aq_set_build.proofs.PlaceLemmas.{sides_long, sides_told, enters_left, enters_right}
 use Rattle.aq_set_build.proofs.places.union_side.Goals as goal
@@ -54,7 +53,7 @@ returns-then-choice-first-clause-earlier c =
 pub side_word-requires-2-clause-same : goal.side_word-requires-2-clause-same
 side_word-requires-2-clause-same c =
     let t = sides_told c.args.exprs.now c.requires.valid c.args.sizes.now c.requires.sizes c.args.expr c.args.left c.args.right c.requires.union _ _ c.index-sizes-left.is c.index-sizes-right.is in
-    omega (arith, t.3, c.requires.long, ap length c.as_slice-2.ensures)
+    omega (arith, t.2, t.3, c.requires.long, ap length c.as_slice-2.ensures)
 
 pub side_word-requires-2-clause-some : goal.side_word-requires-2-clause-some
 side_word-requires-2-clause-some c =
