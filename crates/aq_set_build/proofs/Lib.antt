@@ -15,3 +15,4 @@ pub mod PartLemmas
 pub mod BuiltLemmas
 pub mod MadeLemmas
 pub mod BoundLemmas
+pub mod PlaceLemmas

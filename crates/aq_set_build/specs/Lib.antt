@@ -9,4 +9,5 @@ pub mod Powers
 pub mod Listing
 pub mod Unions
 pub mod Built
+pub mod Places
 pub mod Laws
