@@ -1,5 +1,6 @@
 pub mod Passed
 pub mod CostLemmas
+pub mod TestLemmas
 pub mod GoodLemmas
 pub mod BackLemmas
 pub mod LeastLemmas

@@ -10,5 +10,7 @@ mod places;
 mod search;
 mod step;
 mod table;
+#[cfg(test)]
+mod tests;
 
 pub use inclusion::{Answer, include};
