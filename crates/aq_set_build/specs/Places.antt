@@ -9,8 +9,8 @@ use Rattle.aq_sets.specs.declared.sets.Expr.TheVariants as expr
 pub record IsNoUnion (exprs : List Expr) (i : ℕ) : Type 0 where
   pub none : (left right : ℕ) → slice_get exprs i ≡ Some (expr.Union left right) → ⊥
 
--- A word of i leads to where a word of j leads, an expression on as many qubits that stands no later, behind some vectors of i.
--- Their number is told up to the limit.
+-- A word of i leads to where a word of j leads, behind some vectors of i, whose number is told up to the limit. The
+-- expression j is on as many qubits as i, and stands no later.
 pub record Enters (exprs : List Expr) (i : ℕ) (word : List ℕ) (told j : ℕ) (rest : List ℕ) : Type 0 where
   pub earlier : j ≤ i
   pub level : (size_of exprs j).qubits ≡ (size_of exprs i).qubits

@@ -1,8 +1,8 @@
 //! Where words lead in the lists of expressions.
-ghost use Rattle.std.specs.Prelude.{◌≡◌, ℕ, ◌+◌, ◌*◌, ◌<◌, ◌≤◌, ◌∷◌, List, length, map, slice_get, Some, IfOk, IfSome, IfNone};
+ghost use Rattle.std.specs.Prelude.{◌≡◌, ℕ, ◌<◌, ◌≤◌, ◌∷◌, List, length, map, slice_get, Some, IfOk, IfSome, IfNone};
 ghost use Rattle.aq_store.specs.Words.{IsWord};
 ghost use Rattle.aq_sets.specs.Caps.{most_told, capped, capped_sizes};
-ghost use Rattle.aq_sets.specs.Sizes.{size_of, place, power_place, number_of, shortened, lower};
+ghost use Rattle.aq_sets.specs.Sizes.{size_of, place, number_of, shortened, lower};
 ghost use Rattle.aq_sets.specs.Valid.{IsValidSets};
 ghost use Rattle.aq_sets.specs.ValidExprs.{AreValidExprs};
 ghost use Rattle.aq_set_build.specs.Places.{Enters, IsNoUnion};
