@@ -1,0 +1,12 @@
+use Rattle.std.proofs.Common.{take}
+use Rattle.aq_set_build.specs.Growth.{Grows}
+use Rattle.aq_decide.specs.Budgets.{build_all}
+use Rattle.aq_decide.specs.Goals.{AreMade}
+use Rattle.aq_decide.proofs.building.automata.Given as goal
+
+-- the automata of the cases so far
+abbrev pub invariant-loop-case : goal.invariant-loop-case
+invariant-loop-case l = record {
+  made : AreMade l.sets (take l.case-index l.cases) l.store l.list.items;
+  grows : Grows (build_all l.sets (take l.case-index l.cases)) l.fn.store l.store l.fn.steps l.steps;
+}

@@ -1,0 +1,10 @@
+pub mod Asked
+pub mod Kept
+pub mod Starting
+pub mod Goals
+pub mod Budgets
+pub mod Stops
+pub mod Splitting
+pub mod Playing
+pub mod Deciding
+pub mod Judging
