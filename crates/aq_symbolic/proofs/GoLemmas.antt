@@ -96,6 +96,7 @@ module _ {L : Type 0} (parts : L → List Amplitude) (count : ℕ) where
     from = All-weaker (Contains ends) (ComesFrom ws) (λ u c. All-contains (ComesFrom ws) ends u p.from c) list a.within;
     live = a.live;
     fits = p.fits;
+    lighter = λ named k h. (let fewer = a.lighter named k in let less = p.lighter named k h in omega (arith, fewer, less));
   }
 
   pub ends_fit : (body : List Stmt) (s0 s1 : List (Node L)) (c0 c1 : Count) (ws ends : List World) → CanPlay s0 ws body → Leaves parts count (of_body body) s0 s1 c0 c1 ws ends → AllFitStore s1 ends

@@ -1,6 +1,6 @@
 mod NonzeroLemmas
 mod UnfitLemmas
-mod WeightLemmas
+pub mod WeightLemmas
 mod MoveLemmas
 mod WorldLemmas
 mod AliveLemmas

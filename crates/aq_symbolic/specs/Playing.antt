@@ -107,3 +107,5 @@ module _ {L : Type 0} (parts : L → List Amplitude) (count : ℕ) where
     pub from : All (ComesFrom ws) list
     pub live : All (IsLive parts count new) list
     pub fits : (n m : ℕ) (v : View) → IsView count v → AreSized n m old ws → AllFit n (flat_map ((of_body body).meets n) (map (world_of parts v old) ws))
+    -- each outcome and each decision on a bit that the statements name at most doubles what there is
+    pub lighter : (named : ℕ → Bool) (k : ℕ) → AreNamed named (of_body body).guards → weights named k list ≤ weights named ((of_body body).outcomes + k) ws
