@@ -1,6 +1,6 @@
-"""What automata give is what lists of vectors give, on drawn texts: the vectors of sets, gates on them, and the worlds of obligations
-with the runs that end in them. The program that compares them is made of the crates in a scratch folder, and only run there:
-it has no proof."""
+"""What automata give is what lists of vectors give, on drawn texts: the vectors of sets, gates on them, the worlds of obligations
+with the runs that end in them, and what is decided of an obligation. The program that compares them is made of the crates in a
+scratch folder, and only run there: it has no proof."""
 
 import os
 import shutil
@@ -17,17 +17,20 @@ LOOPED = 100
 PAIRS = 200
 # the crates that the driver names
 CRATES = (
-    "aq_ring aq_prog aq_plain aq_elab aq_sets aq_set_read aq_obligations aq_owing aq_store aq_gate_ops aq_symbolic aq_world"
-    " aq_worlds sqlite_items"
+    "aq_ring aq_prog aq_plain aq_elab aq_sets aq_set_read aq_obligations aq_owing aq_store aq_gate_ops aq_set_build aq_symbolic"
+    " aq_decide aq_world aq_worlds aq_judge aq_report sqlite_items"
 ).split()
 TELEPORTED = (
     b'OPENQASM 3.0;\ninclude "stdgates.inc";\nbit[2] c;\nqubit[3] q;\nh q[1];\ncx q[1], q[2];\ncx q[0], q[1];\nh q[0];\n'
     b"c[0] = measure q[0];\nc[1] = measure q[1];\nif (c[1]) {\n  x q[2];\n}\nif (c[0]) {\n  z q[2];\n}\n",
     b"set psi = [|0> + w|1>]; claim pre = psi * [|00>]; claim post = psi * all 2;",
 )
-KINDS = ("words of sets", "wide sets", "gates", "wide gates", "worlds", "wide obligations", "runs")
+KINDS = ("words of sets", "wide sets", "gates", "wide gates", "worlds", "wide fragments", "runs")
+KINDS += ("obligations that hold", "obligations that don't", "obligations given up for width by both")
 # at the least
-WANTED = (0, 0, 1500, 40, 700, 20, 1500)
+WANTED = (3000, 10, 1500, 40, 700, 20, 1500, 300, 150, 15)
+# by only one of both
+MOST_UNLIKE = 40
 
 
 def below(lines, names):
@@ -98,7 +101,8 @@ def found():
         answers.append(("automata, case %d" % number, [] if line[0] in ("same", "unread") else [line[0]]))
     # one world for each pair of outcomes, each with one state
     answers.append(("the worlds of a teleportation", [] if (lines[0][5], lines[0][7]) == ("4", "4") else [" ".join(lines[0])]))
-    for place, (kind, least) in enumerate(zip(KINDS, WANTED)):
-        count = sum(int(line[place + 1]) for line in lines)
+    counts = [sum(int(line[place]) for line in lines) for place in range(1, len(lines[0]))]
+    for kind, least, count in zip(KINDS, WANTED, counts):
         answers.append(("%s that were compared" % kind, [] if count >= least else ["only %d" % count]))
+    answers.append(("obligations given up for width by one alone", [] if counts[-1] <= MOST_UNLIKE else ["%d" % counts[-1]]))
     return answers
