@@ -12,9 +12,12 @@ from drawn import drawn_dynamic, drawn_looped, drawn_pair
 TOP = os.path.dirname(os.path.dirname(os.path.abspath(__file__)))
 DRIVER = os.path.join(TOP, "tests", "automata_driver.txt")
 SECONDS = 1800
-DYNAMIC = 300
-LOOPED = 100
-PAIRS = 200
+DYNAMIC = 150
+LOOPED = 50
+PAIRS = 60
+# so many cases are played in a run, which is not to take long
+PART = 90
+ENDS = ("same", "different", "unread", "unfinished")
 # the crates that the driver names
 CRATES = (
     "aq_ring aq_prog aq_plain aq_elab aq_sets aq_set_read aq_obligations aq_owing aq_store aq_gate_ops aq_set_build aq_symbolic"
@@ -28,9 +31,9 @@ TELEPORTED = (
 KINDS = ("words of sets", "wide sets", "gates", "wide gates", "worlds", "wide fragments", "runs")
 KINDS += ("obligations that hold", "obligations that don't", "obligations given up for width by both")
 # at the least
-WANTED = (3000, 10, 1500, 40, 700, 20, 1500, 300, 150, 15)
+WANTED = (1500, 4, 2000, 30, 600, 10, 1000, 300, 100, 10)
 # by only one of both
-MOST_UNLIKE = 40
+MOST_UNLIKE = 25
 
 
 def below(lines, names):
@@ -74,20 +77,28 @@ def texts():
     return [TELEPORTED] + dynamic + [drawn_looped(seed) for seed in range(LOOPED)] + [drawn_pair(seed) for seed in range(PAIRS)]
 
 
+def told(crate, texts_of_part):
+    """What a run of the driver tells of each of these cases, and the end of all that was said."""
+    cases = os.path.join(crate, "cases")
+    with open(cases, "wb") as file:
+        for program, sets in texts_of_part:
+            file.write(program + b"\x01" + sets + b"\x02")
+    done = subprocess.run(["rt", "try", "--", cases], cwd=crate, stdin=subprocess.DEVNULL, capture_output=True, timeout=SECONDS)
+    lines = [line.split() for line in done.stdout.decode().splitlines()]
+    return [line for line in lines if line and line[0] in ENDS], (done.stdout + done.stderr).decode()[-600:]
+
+
 def compared():
-    """For each case what is told of it, or the end of what was said in place of it."""
+    """For each case what is told of it, and the end of what was said where some aren't told of."""
+    cases, lines = texts(), []
     with tempfile.TemporaryDirectory() as folder:
         crate = make_crates(folder)
-        cases = os.path.join(folder, "cases")
-        with open(cases, "wb") as file:
-            for program, sets in texts():
-                file.write(program + b"\x01" + sets + b"\x02")
-        done = subprocess.run(
-            ["rt", "try", "--", cases], cwd=crate, stdin=subprocess.DEVNULL, capture_output=True, timeout=SECONDS
-        )
-    lines = [line.split() for line in done.stdout.decode().splitlines()]
-    lines = [line for line in lines if line and line[0] in ("same", "different", "unread", "unfinished")]
-    return lines, (done.stdout + done.stderr).decode()[-600:]
+        for start in range(0, len(cases), PART):
+            found, said = told(crate, cases[start : start + PART])
+            lines += found
+            if len(lines) < min(start + PART, len(cases)):
+                return lines, said
+    return lines, ""
 
 
 def found():
