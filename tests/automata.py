@@ -12,11 +12,11 @@ from drawn import drawn_dynamic, drawn_looped, drawn_pair
 TOP = os.path.dirname(os.path.dirname(os.path.abspath(__file__)))
 DRIVER = os.path.join(TOP, "tests", "automata_driver.txt")
 SECONDS = 1800
-DYNAMIC = 150
-LOOPED = 50
+DYNAMIC = 100
+LOOPED = 60
 PAIRS = 60
 # so many cases are played in a run, which is not to take long
-PART = 90
+PART = 75
 ENDS = ("same", "different", "unread", "unfinished")
 # the crates that the driver names
 CRATES = (
