@@ -10,13 +10,13 @@ ghost use Rattle.aq_decide.specs.Goals.{AreMade};
 
 use aq_obligations::BoundCase;
 use aq_ring::Amp;
-use aq_set_build::build;
+use aq_set_build::{Built, build_with};
 use aq_sets::Sets;
 use aq_store::{Lsta, Steps, Stop, Store};
 use std::alloc::Global;
 
-/// The automata of the cases' expressions, in order. Nodes of the store keep their meaning, also where the call gives
-/// up.
+/// The automata of the cases' expressions, in order. What several cases name is made once. Nodes of the store keep
+/// their meaning, also where the call gives up.
 ///
 /// `WideParts` has operands of a product that a tensor or a power of one of the expressions takes and that doesn't fit,
 /// and `Ok` comes only where each such product fits. `Spent`: `build_all` is more steps than were left.
@@ -35,9 +35,10 @@ pub fn automata(
     ensures stops { IfErr result (StopsFor (IsWideAmong (products_in sets.now cases.now)) (build_all sets.now cases.now)
         steps.old steps.new) }
 {
+    let mut memo = Built::new(alloc);
     let mut list = Vec::new(alloc);
     for case in cases {
-        let made = build(alloc, store, sets, case.set, steps)?;
+        let made = build_with(alloc, store, &mut memo, sets, case.set, steps)?;
         let Ok(()) = list.push(made) else {
             return Err(Stop::Memory);
         };

@@ -9,8 +9,9 @@ use Rattle.aq_sets.specs.declared.sets.Expr.{Expr}
 use Rattle.aq_sets.specs.declared.sets.Expr.TheVariants as expr
 use Rattle.aq_sets.specs.declared.sets.Term.{Term}
 use Rattle.aq_sets.specs.ValidExprs.{AreValidExprs}
-use Rattle.aq_sets.proofs.ExprLaws.{size-is}
+use Rattle.aq_sets.proofs.ExprLaws.{size-is, some_times}
 use Rattle.aq_sets.proofs.PlaceLaws.{ArePositive, positive-append, has_positive}
+use Rattle.aq_store.proofs.TableLemmas.{slice_get-some}
 use Rattle.aq_set_build.specs.Budgets.{weight, build_budget, parts_budget}
 use Rattle.aq_set_build.specs.Unions.{shape_all, nodes_all}
 use Rattle.aq_set_build.proofs.WeightLemmas.{many, weight-is}
@@ -109,20 +110,20 @@ get_or_any (j ∷ js) zero lt = refl
 get_or_any (j ∷ js) (suc k) lt = get_or_any js k (omega arith)
 
 -- ---- sums
-pub kets_most : (q t w : ℕ) → q + 1 ≤ w → (q + 1) * (1 + t) ≤ 8 * ((1 + t) * (2 * w))
+pub kets_most : (q t w : ℕ) → q + 1 ≤ w → (q + 1) * (1 + t) < 8 * ((1 + t) * (2 * w))
 kets_most q t w h = let g = mul-le-mul_right (1 + t) h in omega arith
 
-tensor_most : (a b u v w : ℕ) → u ≤ w → v ≤ w → 8 * (a * (2 * u)) + (8 * (b * (2 * v)) + 2 * (2 * w)) ≤ 8 * ((1 + (a + b)) * (2 * w))
-tensor_most a b u v w h g = let p = mul-le-mul_left a h in let q = mul-le-mul_left b g in omega arith
+tensor_most : (a b u v w : ℕ) → 1 ≤ u → u ≤ w → v ≤ w → 8 * (a * (2 * u)) + (8 * (b * (2 * v)) + 2 * (2 * w)) < 8 * ((1 + (a + b)) * (2 * w))
+tensor_most a b u v w some h g = let p = mul-le-mul_left a h in let q = mul-le-mul_left b g in omega arith
 
-power_most : (k b u w : ℕ) → 0 < k → u ≤ w → 8 * (b * (2 * u)) + (k - 1) * (2 * (2 * w)) ≤ 8 * ((k + b) * (2 * w))
-power_most zero b u w some h = absurd (omega arith)
-power_most (suc k) b u w some h =
+power_most : (k b u w : ℕ) → 0 < k → 1 ≤ u → u ≤ w → 8 * (b * (2 * u)) + (k - 1) * (2 * (2 * w)) < 8 * ((k + b) * (2 * w))
+power_most zero b u w some leaf h = absurd (omega arith)
+power_most (suc k) b u w some leaf h =
     let p = mul-le-mul_left b h in
     let e : (suc k - 1) * (2 * (2 * w)) ≡ k * (2 * (2 * w)) = ap (λ n. n * (2 * (2 * w))) (let z : suc k - 1 ≡ k = omega arith in z) in
     omega arith
 
-union_most : (o p n w : ℕ) → o + p < n → 1 ≤ w → o + (8 * (p * (2 * w)) + 2 * (2 * w)) ≤ 8 * (n * (2 * w))
+union_most : (o p n w : ℕ) → o + p < n → 1 ≤ w → o + (8 * (p * (2 * w)) + 2 * (2 * w)) < 8 * (n * (2 * w))
 union_most o p n w h some =
     let a = mul-le-mul_left o some in
     let b : o + p + 1 ≤ n = omega arith in
@@ -140,20 +141,20 @@ module _ (exprs : List Expr) (valid : AreValidExprs exprs) where
   budget-by : (i : ℕ) (s : Size) → size_of exprs i ≡ s → build_budget exprs i ≡ 8 * (s.nodes * (2 * leaves s.shape))
   budget-by i s e = budget-is i ∙ ap (λ (z : Size). 8 * (z.nodes * (2 * leaves z.shape))) e
 
-  pub kets_budget : (i q : ℕ) (terms : List Term) → slice_get exprs i ≡ Some (expr.Kets q terms) → (q + 1) * (1 + length terms) ≤ build_budget exprs i
+  pub kets_budget : (i q : ℕ) (terms : List Term) → slice_get exprs i ≡ Some (expr.Kets q terms) → (q + 1) * (1 + length terms) < build_budget exprs i
   kets_budget i q terms at =
       let e = budget-by i _ (size-is exprs i (expr.Kets q terms) at (valid.each i (expr.Kets q terms) at)) in
       let h = kets_most q (length terms) (leaves (replicate q 1)) (few_leaves q 1 (omega arith)) in
       omega arith
 
-  pub all_budget : (i q : ℕ) → slice_get exprs i ≡ Some (expr.All q) → 4 * q ≤ build_budget exprs i
+  pub all_budget : (i q : ℕ) → slice_get exprs i ≡ Some (expr.All q) → 4 * q < build_budget exprs i
   all_budget i q at =
       let e = budget-by i _ (size-is exprs i (expr.All q) at (valid.each i (expr.All q) at)) in
       let h = few_leaves q 2 (omega arith) in
       omega arith
 
   pub tensor_budget : (i l r : ℕ) → slice_get exprs i ≡ Some (expr.Tensor l r) → l < length exprs → r < length exprs
-      → build_budget exprs l + (build_budget exprs r + 2 * weight ((size_of exprs l).shape ++ (size_of exprs r).shape)) ≤ build_budget exprs i
+      → build_budget exprs l + (build_budget exprs r + 2 * weight ((size_of exprs l).shape ++ (size_of exprs r).shape)) < build_budget exprs i
   tensor_budget i l r at a b =
       let s = (size_of exprs l).shape in
       let t = (size_of exprs r).shape in
@@ -162,17 +163,17 @@ module _ (exprs : List Expr) (valid : AreValidExprs exprs) where
       let g = budget-is r in
       let w = weight-leaves ((size_of exprs l).shape ++ (size_of exprs r).shape) in
       let h = tensor_most (size_of exprs l).nodes (size_of exprs r).nodes (leaves (size_of exprs l).shape) (leaves (size_of exprs r).shape) (leaves ((size_of exprs l).shape ++ (size_of exprs r).shape))
-      (leaves_first s t (has_positive exprs valid r b)) (leaves_second s t (has_positive exprs valid l a)) in
+      (leaves_some s (has_positive exprs valid l a)) (leaves_first s t (has_positive exprs valid r b)) (leaves_second s t (has_positive exprs valid l a)) in
       omega arith
 
   pub power_budget : (i base times : ℕ) → slice_get exprs i ≡ Some (expr.Power base times) → base < length exprs → 0 < times
-      → build_budget exprs base + (times - 1) * (2 * weight (repeat times (size_of exprs base).shape)) ≤ build_budget exprs i
+      → build_budget exprs base + (times - 1) * (2 * weight (repeat times (size_of exprs base).shape)) < build_budget exprs i
   power_budget i base times at a some =
       let s = (size_of exprs base).shape in
       let e = budget-by i _ (size-is exprs i (expr.Power base times) at (valid.each i (expr.Power base times) at)) in
       let f = budget-is base in
       let w = ap (λ k. (times - 1) * (2 * k)) (weight-leaves (repeat times (size_of exprs base).shape)) in
-      let h = power_most times (size_of exprs base).nodes (leaves (size_of exprs base).shape) (leaves (repeat times (size_of exprs base).shape)) some
+      let h = power_most times (size_of exprs base).nodes (leaves (size_of exprs base).shape) (leaves (repeat times (size_of exprs base).shape)) some (leaves_some s (has_positive exprs valid base a))
       (repeat_first times s some (has_positive exprs valid base a)) in
       omega arith
 
@@ -206,7 +207,7 @@ module _ (exprs : List Expr) (valid : AreValidExprs exprs) where
       omega arith
 
   pub union_budget : (i : ℕ) (js : List ℕ) (opened : ℕ) → i < length exprs → opened + nodes_all exprs js < (size_of exprs i).nodes
-      → opened + (parts_budget exprs i js + 2 * weight (size_of exprs i).shape) ≤ build_budget exprs i
+      → opened + (parts_budget exprs i js + 2 * weight (size_of exprs i).shape) < build_budget exprs i
   union_budget i js opened lt h =
       let e = budget-is i in
       let w = weight-leaves (size_of exprs i).shape in
@@ -247,3 +248,22 @@ module _ (exprs : List Expr) (valid : AreValidExprs exprs) where
 
   pub parts_front : (i : ℕ) (js : List ℕ) (k : ℕ) → parts_budget exprs i (take k js) ≤ parts_budget exprs i js
   parts_front i js k = let h = mul-le-mul_right (weight (size_of exprs i).shape) (nodes_front js k) in omega arith
+
+  -- a budget has room for the entry of a memo
+  nodes_some : (i : ℕ) (e : Expr) → slice_get exprs i ≡ Some e → 1 ≤ (size_of exprs i).nodes
+  nodes_some i (expr.Kets q terms) at = let e = ap (λ (z : Size). z.nodes) (size-is exprs i (expr.Kets q terms) at (valid.each i (expr.Kets q terms) at)) in omega arith
+  nodes_some i (expr.All q) at = let e = ap (λ (z : Size). z.nodes) (size-is exprs i (expr.All q) at (valid.each i (expr.All q) at)) in omega arith
+  nodes_some i (expr.Tensor l r) at = let e = ap (λ (z : Size). z.nodes) (size-is exprs i (expr.Tensor l r) at (valid.each i (expr.Tensor l r) at)) in omega arith
+  nodes_some i (expr.Union l r) at = let e = ap (λ (z : Size). z.nodes) (size-is exprs i (expr.Union l r) at (valid.each i (expr.Union l r) at)) in omega arith
+  nodes_some i (expr.Power base times) at =
+      let e = ap (λ (z : Size). z.nodes) (size-is exprs i (expr.Power base times) at (valid.each i (expr.Power base times) at)) in
+      let some = some_times exprs valid i base times at in
+      omega arith
+
+  pub budget_some : (i : ℕ) → i < length exprs → 0 < build_budget exprs i
+  budget_some i lt =
+      let here = slice_get-some exprs i lt in
+      let n = nodes_some i here.0 here.1 in
+      let e = budget-is i in
+      let m = mul-le-mul_left (size_of exprs i).nodes (leaves_some (size_of exprs i).shape (has_positive exprs valid i lt)) in
+      omega arith

@@ -1,5 +1,5 @@
 -- Bounds on steps.
-use Rattle.std.specs.Prelude.{ℕ, ◌+◌, ◌*◌, ◌^◌, List, [], ◌∷◌, length}
+use Rattle.std.specs.Prelude.{ℕ, ◌+◌, ◌-◌, ◌*◌, ◌^◌, List, [], ◌∷◌, length}
 use Rattle.aq_store.specs.Words.{words}
 use Rattle.aq_sets.specs.Sizes.{size_of}
 use Rattle.aq_sets.specs.declared.sets.Expr.{Expr}
@@ -18,6 +18,10 @@ walk_budget leaf (n ∷ shape) = n + 1 + n * (2 * walk_budget leaf shape)
 -- the steps that the automaton of an expression takes at most
 abbrev pub build_budget : List Expr → ℕ → ℕ
 build_budget exprs i = 8 * ((size_of exprs i).nodes * weight (size_of exprs i).shape)
+
+-- the same, where it isn't in the memo yet, without the step that its entry takes
+abbrev pub new_budget : List Expr → ℕ → ℕ
+new_budget exprs i = build_budget exprs i - 1
 
 -- the same of parts of a union, where each is taken to be as large as the whole
 abbrev pub parts_budget : List Expr → ℕ → List ℕ → ℕ

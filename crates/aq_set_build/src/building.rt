@@ -5,7 +5,7 @@ ghost use Rattle.aq_sets.specs.Sizes.{size_of};
 ghost use Rattle.aq_sets.specs.Valid.{IsValidSets};
 ghost use Rattle.aq_sets.specs.ValidExprs.{AreValidExprs};
 ghost use Rattle.aq_sets.specs.Vectors.{products_of};
-ghost use Rattle.aq_set_build.specs.Budgets.{build_budget, parts_budget};
+ghost use Rattle.aq_set_build.specs.Budgets.{build_budget, new_budget, parts_budget};
 ghost use Rattle.aq_set_build.specs.Built.{built_at, IsBuildMemo};
 ghost use Rattle.aq_set_build.specs.Growth.{Grows, StopsFor};
 ghost use Rattle.aq_set_build.specs.Listing.{IsMade};
@@ -17,7 +17,7 @@ use crate::bracket::kets;
 use crate::built::Built;
 use crate::powers::power;
 use crate::tensors::tensor;
-use crate::unions::{parts_of, push_all};
+use crate::unions::{count, parts_of, push_all};
 use aq_measure_ops::union_of;
 use aq_ring::Amp;
 use aq_sets::{Expr, Sets, Term};
@@ -38,9 +38,9 @@ fn build_kets(
     requires kets { slice_get exprs.now expr ≡ Some (Expr.Kets qubits terms.now) }
     requires paid { total_cost store.old ≤ steps.old.taken }
     ensures made { IfOk result (IsMade exprs.now expr store.new) }
-    ensures grows { Grows (build_budget exprs.now expr) store.old store.new steps.old steps.new }
+    ensures grows { Grows (new_budget exprs.now expr) store.old store.new steps.old steps.new }
     ensures stops { let cause = IsWideAmong (products_of exprs.now expr) in
-        IfErr result (StopsFor cause (build_budget exprs.now expr) steps.old steps.new) }
+        IfErr result (StopsFor cause (new_budget exprs.now expr) steps.old steps.new) }
 {
     let made = kets(alloc, store, qubits, terms, steps)?;
     Ok(made)
@@ -59,15 +59,15 @@ fn build_all(
     requires all { slice_get exprs.now expr ≡ Some (Expr.All qubits) }
     requires paid { total_cost store.old ≤ steps.old.taken }
     ensures made { IfOk result (IsMade exprs.now expr store.new) }
-    ensures grows { Grows (build_budget exprs.now expr) store.old store.new steps.old steps.new }
+    ensures grows { Grows (new_budget exprs.now expr) store.old store.new steps.old steps.new }
     ensures stops { let cause = IsWideAmong (products_of exprs.now expr) in
-        IfErr result (StopsFor cause (build_budget exprs.now expr) steps.old steps.new) }
+        IfErr result (StopsFor cause (new_budget exprs.now expr) steps.old steps.new) }
 {
     let made = all(alloc, store, qubits, steps)?;
     Ok(made)
 }
 
-/// The automaton of an expression. The memo has what was made before.
+/// The automaton of an expression. The memo has what was made before, and an entry more takes a step.
 #[cycle(build)]
 fn build_at(
     alloc: Global,
@@ -92,6 +92,7 @@ fn build_at(
         return Ok(made);
     }
     let made = build_new(alloc, store, exprs, memo, expr, steps)?;
+    count(steps)?;
     memo.put(alloc, expr, &made)?;
     Ok(made)
 }
@@ -112,9 +113,9 @@ fn build_new(
     requires paid { total_cost store.old ≤ steps.old.taken }
     ensures made { IfOk result (IsMade exprs.now expr store.new) }
     ensures memo { OnOk result (IsBuildMemo exprs.now store.new (built_at memo.new)) }
-    ensures grows { Grows (build_budget exprs.now expr) store.old store.new steps.old steps.new }
+    ensures grows { Grows (new_budget exprs.now expr) store.old store.new steps.old steps.new }
     ensures stops { let cause = IsWideAmong (products_of exprs.now expr) in
-        IfErr result (StopsFor cause (build_budget exprs.now expr) steps.old steps.new) }
+        IfErr result (StopsFor cause (new_budget exprs.now expr) steps.old steps.new) }
 {
     match &exprs[expr as usize] {
         Expr::Kets { qubits, terms } => {
@@ -168,9 +169,9 @@ fn build_tensor(
     requires tensor { slice_get exprs.now expr ≡ Some (Expr.Tensor left right) }
     ensures made { IfOk result (IsMade exprs.now expr store.new) }
     ensures memo { OnOk result (IsBuildMemo exprs.now store.new (built_at memo.new)) }
-    ensures grows { Grows (build_budget exprs.now expr) store.old store.new steps.old steps.new }
+    ensures grows { Grows (new_budget exprs.now expr) store.old store.new steps.old steps.new }
     ensures stops { let cause = IsWideAmong (products_of exprs.now expr) in
-        IfErr result (StopsFor cause (build_budget exprs.now expr) steps.old steps.new) }
+        IfErr result (StopsFor cause (new_budget exprs.now expr) steps.old steps.new) }
 {
     let first = build_at(alloc, store, exprs, memo, left, steps)?;
     let second = build_at(alloc, store, exprs, memo, right, steps)?;
@@ -198,9 +199,9 @@ fn build_power(
     requires some { times ≢ 1 }
     ensures made { IfOk result (IsMade exprs.now expr store.new) }
     ensures memo { OnOk result (IsBuildMemo exprs.now store.new (built_at memo.new)) }
-    ensures grows { Grows (build_budget exprs.now expr) store.old store.new steps.old steps.new }
+    ensures grows { Grows (new_budget exprs.now expr) store.old store.new steps.old steps.new }
     ensures stops { let cause = IsWideAmong (products_of exprs.now expr) in
-        IfErr result (StopsFor cause (build_budget exprs.now expr) steps.old steps.new) }
+        IfErr result (StopsFor cause (new_budget exprs.now expr) steps.old steps.new) }
 {
     let factor = build_at(alloc, store, exprs, memo, base, steps)?;
     let made = power(alloc, store, &factor, times, steps)?;
@@ -226,9 +227,9 @@ fn build_union(
     requires fewer { nodes_all exprs.now sides.items < (size_of exprs.now expr).nodes }
     ensures made { IfOk result (IsMade exprs.now expr store.new) }
     ensures memo { OnOk result (IsBuildMemo exprs.now store.new (built_at memo.new)) }
-    ensures grows { Grows (build_budget exprs.now expr) store.old store.new steps.old steps.new }
+    ensures grows { Grows (new_budget exprs.now expr) store.old store.new steps.old steps.new }
     ensures stops { let cause = IsWideAmong (products_of exprs.now expr) in
-        IfErr result (StopsFor cause (build_budget exprs.now expr) steps.old steps.new) }
+        IfErr result (StopsFor cause (new_budget exprs.now expr) steps.old steps.new) }
 {
     let parts = parts_of(alloc, exprs, sides, steps)?;
     let numbers = parts.as_slice();
@@ -275,6 +276,39 @@ fn build_parts(
 /// it has the vector at the word's place in the expression's list. What is used twice is made once, and a union of many
 /// at once. Nodes of the store keep their meaning, also where the call gives up.
 ///
+/// The memo is of the expressions of this file, and many calls may share it, also while the store grows between them.
+/// It stays so unless the call gives up.
+///
+/// `WideParts` has two entries of a tensor product or a power in the expression whose product doesn't fit, and `Ok`
+/// comes only where each such product fits. `Spent` comes only where the steps that are left are fewer than the bound,
+/// and `Memory` where there is none.
+pub fn build_with(
+    alloc: Global,
+    store: &mut Store<Amp>,
+    memo: &mut Built,
+    sets: &Sets,
+    expr: u32,
+    steps: &mut Steps,
+) -> Result<Lsta, Stop<Amp>>
+    requires valid { IsValidSets sets.now }
+    requires there { expr < length sets.now.exprs }
+    requires memo { IsBuildMemo sets.now.exprs store.old (built_at memo.old) }
+    requires paid { total_cost store.old ≤ steps.old.taken }
+    ensures made { IfOk result (IsMade sets.now.exprs expr store.new) }
+    ensures memo { OnOk result (IsBuildMemo sets.now.exprs store.new (built_at memo.new)) }
+    ensures grows { Grows (build_budget sets.now.exprs expr) store.old store.new steps.old steps.new }
+    ensures stops { let cause = IsWideAmong (products_of sets.now.exprs expr) in
+        IfErr result (StopsFor cause (build_budget sets.now.exprs expr) steps.old steps.new) }
+{
+    let exprs = sets.exprs.as_slice();
+    let made = build_at(alloc, store, exprs, memo, expr, steps)?;
+    Ok(made)
+}
+
+/// The automaton of the expression at a position of a valid set file: its shape is the expression's, and each word of
+/// it has the vector at the word's place in the expression's list. What is used twice is made once, and a union of many
+/// at once. Nodes of the store keep their meaning, also where the call gives up.
+///
 /// `WideParts` has two entries of a tensor product or a power in the expression whose product doesn't fit, and `Ok`
 /// comes only where each such product fits. `Spent` comes only where the steps that are left are fewer than the bound,
 /// and `Memory` where there is none.
@@ -294,7 +328,6 @@ pub fn build(
         steps.old steps.new) }
 {
     let mut memo = Built::new(alloc);
-    let exprs = sets.exprs.as_slice();
-    let made = build_at(alloc, store, exprs, &mut memo, expr, steps)?;
+    let made = build_with(alloc, store, &mut memo, sets, expr, steps)?;
     Ok(made)
 }

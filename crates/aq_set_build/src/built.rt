@@ -7,9 +7,9 @@ use aq_store::{Lsta, Stop};
 use indexmap::IndexMap;
 use std::alloc::Global;
 
-/// The automata of expressions that are made, by the numbers of the expressions.
+/// The automata of expressions that are made, by the numbers of the expressions: a memo that many calls may share.
 #[derive(Drop)]
-pub(crate) struct Built {
+pub struct Built {
     made: IndexMap<u32, Lsta>,
 }
 
@@ -29,7 +29,7 @@ fn copy_of(alloc: Global, lsta: &Lsta) -> Result<Lsta, Stop<Amp>>
 
 impl Built {
     /// Nothing is made.
-    pub(crate) fn new(alloc: Global) -> Built
+    pub fn new(alloc: Global) -> Built
         ensures { (q : ℕ) → built_at result q ≡ None }
     {
         Built {

@@ -16,7 +16,8 @@ mod unions;
 
 pub use basis::all;
 pub use bracket::kets;
-pub use building::build;
+pub use building::{build, build_with};
+pub use built::Built;
 pub use places::place_of_word;
 pub use powers::power;
 pub use tensors::tensor;

@@ -11,7 +11,7 @@ use aq_store::{Steps, Stop};
 use std::alloc::Global;
 
 /// Takes one step.
-fn count(steps: &mut Steps) -> Result<(), Stop<Amp>>
+pub(crate) fn count(steps: &mut Steps) -> Result<(), Stop<Amp>>
     ensures ok { OnOk result (steps.new ≡ after 1 steps.old) }
     ensures limit { steps.new.limit ≡ steps.old.limit }
     ensures later { steps.old.taken ≤ steps.new.taken }

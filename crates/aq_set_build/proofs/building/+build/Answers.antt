@@ -15,7 +15,7 @@ use Rattle.aq_sets.specs.Vectors.{products_of}
 use Rattle.aq_sets.specs.declared.sets.Expr.TheVariants as expr
 use Rattle.aq_sets.proofs.ToldLaws.{expr_at}
 use Rattle.aq_sets.proofs.ExprLaws.{some_times}
-use Rattle.aq_set_build.specs.Budgets.{weight, build_budget, parts_budget}
+use Rattle.aq_set_build.specs.Budgets.{weight, build_budget, new_budget, parts_budget}
 use Rattle.aq_set_build.specs.Built.{built_at, IsCopy}
 use Rattle.aq_set_build.specs.Powers.{IsPowerCause}
 use Rattle.aq_set_build.specs.Products.{IsWideAmong}
@@ -24,7 +24,7 @@ use Rattle.aq_set_build.specs.Unions.{AreMade, AreAlike, IsOpening, nodes_all}
 use Rattle.aq_set_build.proofs.GrowthLemmas.{grows_none, grows_then, grows_within, grows_steps, stops_then, stops_within, stops_gives_up}
 use Rattle.aq_set_build.proofs.ExprLemmas.{made_tensor, made_power_at, wide_left, wide_right, wide_tensor, wide_base_at, wide_power}
 use Rattle.aq_set_build.proofs.CoverLemmas.{covered, tensor_within, power_within}
-use Rattle.aq_set_build.proofs.BoundLemmas.{tensor_budget, power_budget, union_budget, opening_budget, parts_step, parts_front, get_or_any}
+use Rattle.aq_set_build.proofs.BoundLemmas.{tensor_budget, power_budget, union_budget, opening_budget, parts_step, parts_front, budget_some, get_or_any}
 use Rattle.aq_set_build.proofs.BuiltLemmas.{made-Extends, made_copy, build_memo-Extends, build_memo-put}
 use Rattle.aq_set_build.proofs.MadeLemmas.{all_made-none, all_made-push, all_made-Extends, all_made_fit, all_made_levels, all_made-length, below_level, parts_shape, parts_some, alike_shape, made_union, wide_part, within_of}
 use Rattle.aq_set_build.proofs.PartLemmas.{opening_union, fewer_union, opening_power, fewer_power}
@@ -38,6 +38,40 @@ build_at-returns-in-Some-clause-made t c =
 pub build_at-returns-clause-memo : goal.build_at-returns-clause-memo
 build_at-returns-clause-memo t c =
     build_memo-put c.args.exprs.now c.build_new.new.store (built_at c.build_new.new.memo) (built_at c.put.new.self) c.args.expr c.in_ok-made.made c.in_ok-made.ensures.memo c.in_ok-made.ensures.made c.in_ok-put.ensures.puts
+
+pub build_at-returns-in_err-made-clause-grows : goal.build_at-returns-in_err-made-clause-grows
+build_at-returns-in_err-made-clause-grows t c =
+    grows_within (new_budget c.args.exprs.now c.args.expr) (build_budget c.args.exprs.now c.args.expr) _ _ _ _ c.build_new.ensures.grows (omega arith)
+
+pub build_at-returns-in_err-made-clause-stops : goal.build_at-returns-in_err-made-clause-stops
+build_at-returns-in_err-made-clause-stops t c =
+    passed_on _ c.from_residual-in_err-made.result c.in_err-made.field-0.0 c.from_residual-in_err-made.ensures
+    (stops_within (IsWideAmong (products_of c.args.exprs.now c.args.expr)) (IsWideAmong (products_of c.args.exprs.now c.args.expr)) (new_budget c.args.exprs.now c.args.expr) (build_budget c.args.exprs.now c.args.expr) c.args.steps.now c.build_new.new.steps c.in_err-made.field-0.0 (omega arith) (λ x y h. h) c.in_err-made.ensures.stops)
+
+pub build_at-returns-in_err-count-clause-grows : goal.build_at-returns-in_err-count-clause-grows
+build_at-returns-in_err-count-clause-grows t c =
+    let some = budget_some c.args.exprs.now c.requires.valid c.args.expr c.requires.there in
+    let g : Grows 1 c.build_new.new.store c.build_new.new.store c.build_new.new.steps c.count.new.steps = grows_steps 1 c.build_new.new.store c.build_new.new.steps c.count.new.steps c.build_new.ensures.grows.paid c.count.ensures.later c.count.ensures.limit c.count.ensures.cheap in
+    grows_then (new_budget c.args.exprs.now c.args.expr) 1 (build_budget c.args.exprs.now c.args.expr) _ _ _ _ _ _ c.build_new.ensures.grows g (omega arith)
+
+pub build_at-returns-in_err-put-clause-grows : goal.build_at-returns-in_err-put-clause-grows
+build_at-returns-in_err-put-clause-grows t c =
+    let some = budget_some c.args.exprs.now c.requires.valid c.args.expr c.requires.there in
+    let g : Grows 1 c.build_new.new.store c.build_new.new.store c.build_new.new.steps c.count.new.steps = grows_steps 1 c.build_new.new.store c.build_new.new.steps c.count.new.steps c.build_new.ensures.grows.paid c.count.ensures.later c.count.ensures.limit c.count.ensures.cheap in
+    grows_then (new_budget c.args.exprs.now c.args.expr) 1 (build_budget c.args.exprs.now c.args.expr) _ _ _ _ _ _ c.build_new.ensures.grows g (omega arith)
+
+pub build_at-returns-clause-grows : goal.build_at-returns-clause-grows
+build_at-returns-clause-grows t c =
+    let some = budget_some c.args.exprs.now c.requires.valid c.args.expr c.requires.there in
+    let g : Grows 1 c.build_new.new.store c.build_new.new.store c.build_new.new.steps c.count.new.steps = grows_steps 1 c.build_new.new.store c.build_new.new.steps c.count.new.steps c.build_new.ensures.grows.paid c.count.ensures.later c.count.ensures.limit c.count.ensures.cheap in
+    grows_then (new_budget c.args.exprs.now c.args.expr) 1 (build_budget c.args.exprs.now c.args.expr) _ _ _ _ _ _ c.build_new.ensures.grows g (omega arith)
+
+pub build_at-returns-in_err-count-clause-stops : goal.build_at-returns-in_err-count-clause-stops
+build_at-returns-in_err-count-clause-stops t c =
+    let some = budget_some c.args.exprs.now c.requires.valid c.args.expr c.requires.there in
+    passed_on _ c.from_residual-in_err-count.result c.in_err-count.field-0.0 c.from_residual-in_err-count.ensures
+    (stops_then (IsWideAmong (products_of c.args.exprs.now c.args.expr)) (IsWideAmong (products_of c.args.exprs.now c.args.expr)) (new_budget c.args.exprs.now c.args.expr) 1 (build_budget c.args.exprs.now c.args.expr) _ _ _ _ _ c.in_err-count.field-0.0 c.build_new.ensures.grows (omega arith) (λ x y h. h)
+    (stops_gives_up (IsWideAmong (products_of c.args.exprs.now c.args.expr)) 1 c.build_new.new.steps c.count.new.steps c.in_err-count.field-0.0 c.in_err-count.ensures.refused))
 
 pub build_tensor-build_at-requires : goal.build_tensor-build_at-requires
 build_tensor-build_at-requires t c =
@@ -62,7 +96,7 @@ build_tensor-returns-in_err-first-clause-grows t c =
     let v = c.requires.valid in
     let w = tensor_within c.args.exprs.now v c.args.expr c.args.left c.args.right c.requires.tensor in
     let b = tensor_budget c.args.exprs.now v c.args.expr c.args.left c.args.right c.requires.tensor w.0 w.1 in
-    grows_within (build_budget c.args.exprs.now c.args.left) (build_budget c.args.exprs.now c.args.expr) _ _ _ _ c.build_at.ensures.grows (omega arith)
+    grows_within (build_budget c.args.exprs.now c.args.left) (new_budget c.args.exprs.now c.args.expr) _ _ _ _ c.build_at.ensures.grows (omega arith)
 
 pub build_tensor-returns-in_err-first-clause-stops : goal.build_tensor-returns-in_err-first-clause-stops
 build_tensor-returns-in_err-first-clause-stops t c =
@@ -70,14 +104,14 @@ build_tensor-returns-in_err-first-clause-stops t c =
     let w = tensor_within c.args.exprs.now v c.args.expr c.args.left c.args.right c.requires.tensor in
     let b = tensor_budget c.args.exprs.now v c.args.expr c.args.left c.args.right c.requires.tensor w.0 w.1 in
     passed_on _ c.from_residual.result c.in_err-first.field-0.0 c.from_residual.ensures
-    (stops_within (IsWideAmong (products_of c.args.exprs.now c.args.left)) (IsWideAmong (products_of c.args.exprs.now c.args.expr)) (build_budget c.args.exprs.now c.args.left) (build_budget c.args.exprs.now c.args.expr) c.args.steps.now c.build_at.new.steps c.in_err-first.field-0.0 (omega arith) (wide_left c.args.exprs.now v c.args.expr c.args.left c.args.right c.requires.tensor) c.in_err-first.ensures.stops)
+    (stops_within (IsWideAmong (products_of c.args.exprs.now c.args.left)) (IsWideAmong (products_of c.args.exprs.now c.args.expr)) (build_budget c.args.exprs.now c.args.left) (new_budget c.args.exprs.now c.args.expr) c.args.steps.now c.build_at.new.steps c.in_err-first.field-0.0 (omega arith) (wide_left c.args.exprs.now v c.args.expr c.args.left c.args.right c.requires.tensor) c.in_err-first.ensures.stops)
 
 pub build_tensor-returns-in_err-second-clause-grows : goal.build_tensor-returns-in_err-second-clause-grows
 build_tensor-returns-in_err-second-clause-grows t c =
     let v = c.requires.valid in
     let w = tensor_within c.args.exprs.now v c.args.expr c.args.left c.args.right c.requires.tensor in
     let b = tensor_budget c.args.exprs.now v c.args.expr c.args.left c.args.right c.requires.tensor w.0 w.1 in
-    grows_then (build_budget c.args.exprs.now c.args.left) (build_budget c.args.exprs.now c.args.right) (build_budget c.args.exprs.now c.args.expr) _ _ _ _ _ _ c.build_at.ensures.grows c.build_at-2.ensures.grows (omega arith)
+    grows_then (build_budget c.args.exprs.now c.args.left) (build_budget c.args.exprs.now c.args.right) (new_budget c.args.exprs.now c.args.expr) _ _ _ _ _ _ c.build_at.ensures.grows c.build_at-2.ensures.grows (omega arith)
 
 pub build_tensor-returns-in_err-second-clause-stops : goal.build_tensor-returns-in_err-second-clause-stops
 build_tensor-returns-in_err-second-clause-stops t c =
@@ -85,7 +119,7 @@ build_tensor-returns-in_err-second-clause-stops t c =
     let w = tensor_within c.args.exprs.now v c.args.expr c.args.left c.args.right c.requires.tensor in
     let b = tensor_budget c.args.exprs.now v c.args.expr c.args.left c.args.right c.requires.tensor w.0 w.1 in
     passed_on _ c.from_residual-in_err-second.result c.in_err-second.field-0.0 c.from_residual-in_err-second.ensures
-    (stops_then (IsWideAmong (products_of c.args.exprs.now c.args.right)) (IsWideAmong (products_of c.args.exprs.now c.args.expr)) (build_budget c.args.exprs.now c.args.left) (build_budget c.args.exprs.now c.args.right) (build_budget c.args.exprs.now c.args.expr) _ _ _ _ _ c.in_err-second.field-0.0 c.build_at.ensures.grows (omega arith) (wide_right c.args.exprs.now v c.args.expr c.args.left c.args.right c.requires.tensor) c.in_err-second.ensures.stops)
+    (stops_then (IsWideAmong (products_of c.args.exprs.now c.args.right)) (IsWideAmong (products_of c.args.exprs.now c.args.expr)) (build_budget c.args.exprs.now c.args.left) (build_budget c.args.exprs.now c.args.right) (new_budget c.args.exprs.now c.args.expr) _ _ _ _ _ c.in_err-second.field-0.0 c.build_at.ensures.grows (omega arith) (wide_right c.args.exprs.now v c.args.expr c.args.left c.args.right c.requires.tensor) c.in_err-second.ensures.stops)
 
 pub build_tensor-tensor-requires-clause-left : goal.build_tensor-tensor-requires-clause-left
 build_tensor-tensor-requires-clause-left t c =
@@ -98,7 +132,7 @@ build_tensor-returns-in_err-made-clause-grows t c =
     let b = tensor_budget c.args.exprs.now v c.args.expr c.args.left c.args.right c.requires.tensor w.0 w.1 in
     let m = ap₂ (λ x y. 2 * weight (x ++ y)) c.in_ok-first.ensures.made.built.shape c.in_ok-second.ensures.made.built.shape in
     let g : Grows ((build_budget c.args.exprs.now c.args.left) + (build_budget c.args.exprs.now c.args.right)) c.args.store.now c.build_at-2.new.store c.args.steps.now c.build_at-2.new.steps = grows_then (build_budget c.args.exprs.now c.args.left) (build_budget c.args.exprs.now c.args.right) ((build_budget c.args.exprs.now c.args.left) + (build_budget c.args.exprs.now c.args.right)) _ _ _ _ _ _ c.build_at.ensures.grows c.build_at-2.ensures.grows (omega arith) in
-    grows_then ((build_budget c.args.exprs.now c.args.left) + (build_budget c.args.exprs.now c.args.right)) (2 * weight (c.in_ok-first.first.shape.items ++ c.in_ok-second.second.shape.items)) (build_budget c.args.exprs.now c.args.expr) _ _ _ _ _ _ g c.tensor.ensures.grows (omega arith)
+    grows_then ((build_budget c.args.exprs.now c.args.left) + (build_budget c.args.exprs.now c.args.right)) (2 * weight (c.in_ok-first.first.shape.items ++ c.in_ok-second.second.shape.items)) (new_budget c.args.exprs.now c.args.expr) _ _ _ _ _ _ g c.tensor.ensures.grows (omega arith)
 
 pub build_tensor-returns-in_err-made-clause-stops : goal.build_tensor-returns-in_err-made-clause-stops
 build_tensor-returns-in_err-made-clause-stops t c =
@@ -109,7 +143,7 @@ build_tensor-returns-in_err-made-clause-stops t c =
     let g : Grows ((build_budget c.args.exprs.now c.args.left) + (build_budget c.args.exprs.now c.args.right)) c.args.store.now c.build_at-2.new.store c.args.steps.now c.build_at-2.new.steps = grows_then (build_budget c.args.exprs.now c.args.left) (build_budget c.args.exprs.now c.args.right) ((build_budget c.args.exprs.now c.args.left) + (build_budget c.args.exprs.now c.args.right)) _ _ _ _ _ _ c.build_at.ensures.grows c.build_at-2.ensures.grows (omega arith) in
     let p = made-Extends c.args.exprs.now c.args.left c.build_at.new.store c.build_at-2.new.store c.build_at-2.ensures.grows.keeps c.in_ok-first.first c.in_ok-first.ensures.made in
     passed_on _ c.from_residual-in_err-made.result c.in_err-made.field-0.0 c.from_residual-in_err-made.ensures
-    (stops_then (IsTensorCause c.build_at-2.new.store c.in_ok-first.first c.in_ok-second.second) (IsWideAmong (products_of c.args.exprs.now c.args.expr)) ((build_budget c.args.exprs.now c.args.left) + (build_budget c.args.exprs.now c.args.right)) (2 * weight (c.in_ok-first.first.shape.items ++ c.in_ok-second.second.shape.items)) (build_budget c.args.exprs.now c.args.expr) _ _ _ _ _ c.in_err-made.field-0.0 g (omega arith)
+    (stops_then (IsTensorCause c.build_at-2.new.store c.in_ok-first.first c.in_ok-second.second) (IsWideAmong (products_of c.args.exprs.now c.args.expr)) ((build_budget c.args.exprs.now c.args.left) + (build_budget c.args.exprs.now c.args.right)) (2 * weight (c.in_ok-first.first.shape.items ++ c.in_ok-second.second.shape.items)) (new_budget c.args.exprs.now c.args.expr) _ _ _ _ _ c.in_err-made.field-0.0 g (omega arith)
     (wide_tensor c.args.exprs.now v c.args.expr c.args.left c.args.right c.requires.tensor c.build_at-2.new.store c.in_ok-first.first c.in_ok-second.second p.built c.in_ok-second.ensures.made.built) c.in_err-made.ensures.stops)
 
 pub build_tensor-returns-clause-made : goal.build_tensor-returns-clause-made
@@ -130,7 +164,7 @@ build_tensor-returns-clause-grows t c =
     let b = tensor_budget c.args.exprs.now v c.args.expr c.args.left c.args.right c.requires.tensor w.0 w.1 in
     let m = ap₂ (λ x y. 2 * weight (x ++ y)) c.in_ok-first.ensures.made.built.shape c.in_ok-second.ensures.made.built.shape in
     let g : Grows ((build_budget c.args.exprs.now c.args.left) + (build_budget c.args.exprs.now c.args.right)) c.args.store.now c.build_at-2.new.store c.args.steps.now c.build_at-2.new.steps = grows_then (build_budget c.args.exprs.now c.args.left) (build_budget c.args.exprs.now c.args.right) ((build_budget c.args.exprs.now c.args.left) + (build_budget c.args.exprs.now c.args.right)) _ _ _ _ _ _ c.build_at.ensures.grows c.build_at-2.ensures.grows (omega arith) in
-    grows_then ((build_budget c.args.exprs.now c.args.left) + (build_budget c.args.exprs.now c.args.right)) (2 * weight (c.in_ok-first.first.shape.items ++ c.in_ok-second.second.shape.items)) (build_budget c.args.exprs.now c.args.expr) _ _ _ _ _ _ g c.tensor.ensures.grows (omega arith)
+    grows_then ((build_budget c.args.exprs.now c.args.left) + (build_budget c.args.exprs.now c.args.right)) (2 * weight (c.in_ok-first.first.shape.items ++ c.in_ok-second.second.shape.items)) (new_budget c.args.exprs.now c.args.expr) _ _ _ _ _ _ g c.tensor.ensures.grows (omega arith)
 
 pub build_power-build_at-requires : goal.build_power-build_at-requires
 build_power-build_at-requires t c =
@@ -145,7 +179,7 @@ build_power-returns-in_err-factor-clause-grows t c =
     let w = power_within c.args.exprs.now v c.args.expr c.args.base c.args.times c.requires.power in
     let some = some_times c.args.exprs.now v c.args.expr c.args.base c.args.times c.requires.power in
     let b = power_budget c.args.exprs.now v c.args.expr c.args.base c.args.times c.requires.power w some in
-    grows_within (build_budget c.args.exprs.now c.args.base) (build_budget c.args.exprs.now c.args.expr) _ _ _ _ c.build_at.ensures.grows (omega arith)
+    grows_within (build_budget c.args.exprs.now c.args.base) (new_budget c.args.exprs.now c.args.expr) _ _ _ _ c.build_at.ensures.grows (omega arith)
 
 pub build_power-returns-in_err-factor-clause-stops : goal.build_power-returns-in_err-factor-clause-stops
 build_power-returns-in_err-factor-clause-stops t c =
@@ -154,7 +188,7 @@ build_power-returns-in_err-factor-clause-stops t c =
     let some = some_times c.args.exprs.now v c.args.expr c.args.base c.args.times c.requires.power in
     let b = power_budget c.args.exprs.now v c.args.expr c.args.base c.args.times c.requires.power w some in
     passed_on _ c.from_residual.result c.in_err-factor.field-0.0 c.from_residual.ensures
-    (stops_within (IsWideAmong (products_of c.args.exprs.now c.args.base)) (IsWideAmong (products_of c.args.exprs.now c.args.expr)) (build_budget c.args.exprs.now c.args.base) (build_budget c.args.exprs.now c.args.expr) c.args.steps.now c.build_at.new.steps c.in_err-factor.field-0.0 (omega arith) (wide_base_at c.args.exprs.now v c.args.expr c.args.base c.args.times w c.requires.power) c.in_err-factor.ensures.stops)
+    (stops_within (IsWideAmong (products_of c.args.exprs.now c.args.base)) (IsWideAmong (products_of c.args.exprs.now c.args.expr)) (build_budget c.args.exprs.now c.args.base) (new_budget c.args.exprs.now c.args.expr) c.args.steps.now c.build_at.new.steps c.in_err-factor.field-0.0 (omega arith) (wide_base_at c.args.exprs.now v c.args.expr c.args.base c.args.times w c.requires.power) c.in_err-factor.ensures.stops)
 
 pub build_power-power-requires-clause-some : goal.build_power-power-requires-clause-some
 build_power-power-requires-clause-some t c =
@@ -169,7 +203,7 @@ build_power-returns-in_err-made-clause-grows t c =
     let some = some_times c.args.exprs.now v c.args.expr c.args.base c.args.times c.requires.power in
     let b = power_budget c.args.exprs.now v c.args.expr c.args.base c.args.times c.requires.power w some in
     let m = ap (λ x. (c.args.times - 1) * (2 * weight (repeat c.args.times x))) c.in_ok-factor.ensures.made.built.shape in
-    grows_then (build_budget c.args.exprs.now c.args.base) ((c.args.times - 1) * (2 * weight (repeat c.args.times c.in_ok-factor.factor.shape.items))) (build_budget c.args.exprs.now c.args.expr) _ _ _ _ _ _ c.build_at.ensures.grows c.power.ensures.grows (omega arith)
+    grows_then (build_budget c.args.exprs.now c.args.base) ((c.args.times - 1) * (2 * weight (repeat c.args.times c.in_ok-factor.factor.shape.items))) (new_budget c.args.exprs.now c.args.expr) _ _ _ _ _ _ c.build_at.ensures.grows c.power.ensures.grows (omega arith)
 
 pub build_power-returns-in_err-made-clause-stops : goal.build_power-returns-in_err-made-clause-stops
 build_power-returns-in_err-made-clause-stops t c =
@@ -179,7 +213,7 @@ build_power-returns-in_err-made-clause-stops t c =
     let b = power_budget c.args.exprs.now v c.args.expr c.args.base c.args.times c.requires.power w some in
     let m = ap (λ x. (c.args.times - 1) * (2 * weight (repeat c.args.times x))) c.in_ok-factor.ensures.made.built.shape in
     passed_on _ c.from_residual-in_err-made.result c.in_err-made.field-0.0 c.from_residual-in_err-made.ensures
-    (stops_then (IsPowerCause c.args.times c.build_at.new.store c.in_ok-factor.factor) (IsWideAmong (products_of c.args.exprs.now c.args.expr)) (build_budget c.args.exprs.now c.args.base) ((c.args.times - 1) * (2 * weight (repeat c.args.times c.in_ok-factor.factor.shape.items))) (build_budget c.args.exprs.now c.args.expr) _ _ _ _ _ c.in_err-made.field-0.0 c.build_at.ensures.grows (omega arith)
+    (stops_then (IsPowerCause c.args.times c.build_at.new.store c.in_ok-factor.factor) (IsWideAmong (products_of c.args.exprs.now c.args.expr)) (build_budget c.args.exprs.now c.args.base) ((c.args.times - 1) * (2 * weight (repeat c.args.times c.in_ok-factor.factor.shape.items))) (new_budget c.args.exprs.now c.args.expr) _ _ _ _ _ c.in_err-made.field-0.0 c.build_at.ensures.grows (omega arith)
     (wide_power c.args.exprs.now v c.args.base w c.args.expr c.args.times c.requires.power c.build_at.new.store c.in_ok-factor.factor c.in_ok-factor.ensures.made.built) c.in_err-made.ensures.stops)
 
 pub build_power-returns-clause-made : goal.build_power-returns-clause-made
@@ -199,27 +233,27 @@ build_power-returns-clause-grows t c =
     let some = some_times c.args.exprs.now v c.args.expr c.args.base c.args.times c.requires.power in
     let b = power_budget c.args.exprs.now v c.args.expr c.args.base c.args.times c.requires.power w some in
     let m = ap (λ x. (c.args.times - 1) * (2 * weight (repeat c.args.times x))) c.in_ok-factor.ensures.made.built.shape in
-    grows_then (build_budget c.args.exprs.now c.args.base) ((c.args.times - 1) * (2 * weight (repeat c.args.times c.in_ok-factor.factor.shape.items))) (build_budget c.args.exprs.now c.args.expr) _ _ _ _ _ _ c.build_at.ensures.grows c.power.ensures.grows (omega arith)
+    grows_then (build_budget c.args.exprs.now c.args.base) ((c.args.times - 1) * (2 * weight (repeat c.args.times c.in_ok-factor.factor.shape.items))) (new_budget c.args.exprs.now c.args.expr) _ _ _ _ _ _ c.build_at.ensures.grows c.power.ensures.grows (omega arith)
 
 pub build_union-returns-in_err-parts-clause-grows : goal.build_union-returns-in_err-parts-clause-grows
 build_union-returns-in_err-parts-clause-grows t c =
     let v = c.requires.valid in
     let o = opening_budget c.args.exprs.now v c.args.expr c.requires.there in
-    grows_steps (build_budget c.args.exprs.now c.args.expr) c.args.store.now c.args.steps.now c.parts_of.new.steps c.requires.paid c.parts_of.ensures.later c.parts_of.ensures.limit (omega arith)
+    grows_steps (new_budget c.args.exprs.now c.args.expr) c.args.store.now c.args.steps.now c.parts_of.new.steps c.requires.paid c.parts_of.ensures.later c.parts_of.ensures.limit (omega arith)
 
 pub build_union-returns-in_err-parts-clause-stops : goal.build_union-returns-in_err-parts-clause-stops
 build_union-returns-in_err-parts-clause-stops t c =
     let v = c.requires.valid in
     let o = opening_budget c.args.exprs.now v c.args.expr c.requires.there in
     passed_on _ c.from_residual.result c.in_err-parts.field-0.0 c.from_residual.ensures
-    (stops_within (IsWideAmong (products_of c.args.exprs.now c.args.expr)) (IsWideAmong (products_of c.args.exprs.now c.args.expr)) (nodes_all c.args.exprs.now c.args.sides.items) (build_budget c.args.exprs.now c.args.expr) c.args.steps.now c.parts_of.new.steps c.in_err-parts.field-0.0 (omega arith) (λ x y h. h) (stops_gives_up (IsWideAmong (products_of c.args.exprs.now c.args.expr)) (nodes_all c.args.exprs.now c.args.sides.items) c.args.steps.now c.parts_of.new.steps c.in_err-parts.field-0.0 c.in_err-parts.ensures.refused))
+    (stops_within (IsWideAmong (products_of c.args.exprs.now c.args.expr)) (IsWideAmong (products_of c.args.exprs.now c.args.expr)) (nodes_all c.args.exprs.now c.args.sides.items) (new_budget c.args.exprs.now c.args.expr) c.args.steps.now c.parts_of.new.steps c.in_err-parts.field-0.0 (omega arith) (λ x y h. h) (stops_gives_up (IsWideAmong (products_of c.args.exprs.now c.args.expr)) (nodes_all c.args.exprs.now c.args.sides.items) c.args.steps.now c.parts_of.new.steps c.in_err-parts.field-0.0 c.in_err-parts.ensures.refused))
 
 pub build_union-returns-in_err-list-clause-grows : goal.build_union-returns-in_err-list-clause-grows
 build_union-returns-in_err-list-clause-grows t c =
     let v = c.requires.valid in
     let u = union_budget c.args.exprs.now v c.args.expr c.as_slice-numbers.result.now (c.parts_of.new.steps.taken - c.args.steps.now.taken) c.requires.there (let n = c.in_ok-parts.ensures.nodes in let e = ap (nodes_all c.args.exprs.now) c.as_slice-numbers.ensures.value in omega arith) in
     let g : Grows (c.parts_of.new.steps.taken - c.args.steps.now.taken) c.args.store.now c.args.store.now c.args.steps.now c.parts_of.new.steps = grows_steps (c.parts_of.new.steps.taken - c.args.steps.now.taken) c.args.store.now c.args.steps.now c.parts_of.new.steps c.requires.paid c.parts_of.ensures.later c.parts_of.ensures.limit (omega (arith, c.parts_of.ensures.later)) in
-    grows_then (c.parts_of.new.steps.taken - c.args.steps.now.taken) (parts_budget c.args.exprs.now c.args.expr c.as_slice-numbers.result.now) (build_budget c.args.exprs.now c.args.expr) _ _ _ _ _ _ g c.build_parts.ensures.grows (omega arith)
+    grows_then (c.parts_of.new.steps.taken - c.args.steps.now.taken) (parts_budget c.args.exprs.now c.args.expr c.as_slice-numbers.result.now) (new_budget c.args.exprs.now c.args.expr) _ _ _ _ _ _ g c.build_parts.ensures.grows (omega arith)
 
 pub build_union-returns-in_err-list-clause-stops : goal.build_union-returns-in_err-list-clause-stops
 build_union-returns-in_err-list-clause-stops t c =
@@ -227,7 +261,7 @@ build_union-returns-in_err-list-clause-stops t c =
     let u = union_budget c.args.exprs.now v c.args.expr c.as_slice-numbers.result.now (c.parts_of.new.steps.taken - c.args.steps.now.taken) c.requires.there (let n = c.in_ok-parts.ensures.nodes in let e = ap (nodes_all c.args.exprs.now) c.as_slice-numbers.ensures.value in omega arith) in
     let g : Grows (c.parts_of.new.steps.taken - c.args.steps.now.taken) c.args.store.now c.args.store.now c.args.steps.now c.parts_of.new.steps = grows_steps (c.parts_of.new.steps.taken - c.args.steps.now.taken) c.args.store.now c.args.steps.now c.parts_of.new.steps c.requires.paid c.parts_of.ensures.later c.parts_of.ensures.limit (omega (arith, c.parts_of.ensures.later)) in
     passed_on _ c.from_residual-in_err-list.result c.in_err-list.field-0.0 c.from_residual-in_err-list.ensures
-    (stops_then (IsWideAmong (products_of c.args.exprs.now c.args.expr)) (IsWideAmong (products_of c.args.exprs.now c.args.expr)) (c.parts_of.new.steps.taken - c.args.steps.now.taken) (parts_budget c.args.exprs.now c.args.expr c.as_slice-numbers.result.now) (build_budget c.args.exprs.now c.args.expr) _ _ _ _ _ c.in_err-list.field-0.0 g (omega arith) (λ x y h. h) c.in_err-list.ensures.stops)
+    (stops_then (IsWideAmong (products_of c.args.exprs.now c.args.expr)) (IsWideAmong (products_of c.args.exprs.now c.args.expr)) (c.parts_of.new.steps.taken - c.args.steps.now.taken) (parts_budget c.args.exprs.now c.args.expr c.as_slice-numbers.result.now) (new_budget c.args.exprs.now c.args.expr) _ _ _ _ _ c.in_err-list.field-0.0 g (omega arith) (λ x y h. h) c.in_err-list.ensures.stops)
 
 pub build_union-union_of-requires-clause-some : goal.build_union-union_of-requires-clause-some
 build_union-union_of-requires-clause-some t c =
@@ -263,7 +297,7 @@ build_union-returns-in_err-made-clause-grows t c =
     let z = ap (λ x. 2 * store.words x * 2 ^ (length x + 1)) s in
     let h : Grows (2 * weight (size_of c.args.exprs.now c.args.expr).shape) c.build_parts.new.store c.union_of.new.store c.build_parts.new.steps c.union_of.new.steps = record { keeps = c.union_of.ensures.keeps; paid = c.union_of.ensures.paid; limit = c.union_of.ensures.limit; cheap = omega (arith, c.union_of.ensures.steps) } in
     let k : Grows ((c.parts_of.new.steps.taken - c.args.steps.now.taken) + (parts_budget c.args.exprs.now c.args.expr c.as_slice-numbers.result.now)) c.args.store.now c.build_parts.new.store c.args.steps.now c.build_parts.new.steps = grows_then (c.parts_of.new.steps.taken - c.args.steps.now.taken) (parts_budget c.args.exprs.now c.args.expr c.as_slice-numbers.result.now) ((c.parts_of.new.steps.taken - c.args.steps.now.taken) + (parts_budget c.args.exprs.now c.args.expr c.as_slice-numbers.result.now)) _ _ _ _ _ _ g c.build_parts.ensures.grows (omega arith) in
-    grows_then ((c.parts_of.new.steps.taken - c.args.steps.now.taken) + (parts_budget c.args.exprs.now c.args.expr c.as_slice-numbers.result.now)) (2 * weight (size_of c.args.exprs.now c.args.expr).shape) (build_budget c.args.exprs.now c.args.expr) _ _ _ _ _ _ k h (omega arith)
+    grows_then ((c.parts_of.new.steps.taken - c.args.steps.now.taken) + (parts_budget c.args.exprs.now c.args.expr c.as_slice-numbers.result.now)) (2 * weight (size_of c.args.exprs.now c.args.expr).shape) (new_budget c.args.exprs.now c.args.expr) _ _ _ _ _ _ k h (omega arith)
 
 pub build_union-returns-in_err-made-clause-stops : goal.build_union-returns-in_err-made-clause-stops
 build_union-returns-in_err-made-clause-stops t c =
@@ -276,7 +310,7 @@ build_union-returns-in_err-made-clause-stops t c =
     let z = ap (λ x. 2 * store.words x * 2 ^ (length x + 1)) s in
     let k : Grows ((c.parts_of.new.steps.taken - c.args.steps.now.taken) + (parts_budget c.args.exprs.now c.args.expr c.as_slice-numbers.result.now)) c.args.store.now c.build_parts.new.store c.args.steps.now c.build_parts.new.steps = grows_then (c.parts_of.new.steps.taken - c.args.steps.now.taken) (parts_budget c.args.exprs.now c.args.expr c.as_slice-numbers.result.now) ((c.parts_of.new.steps.taken - c.args.steps.now.taken) + (parts_budget c.args.exprs.now c.args.expr c.as_slice-numbers.result.now)) _ _ _ _ _ _ g c.build_parts.ensures.grows (omega arith) in
     passed_on _ c.from_residual-in_err-made.result c.in_err-made.field-0.0 c.from_residual-in_err-made.ensures
-    (stops_then (IsWideAmong (products_of c.args.exprs.now c.args.expr)) (IsWideAmong (products_of c.args.exprs.now c.args.expr)) ((c.parts_of.new.steps.taken - c.args.steps.now.taken) + (parts_budget c.args.exprs.now c.args.expr c.as_slice-numbers.result.now)) (2 * weight (size_of c.args.exprs.now c.args.expr).shape) (build_budget c.args.exprs.now c.args.expr) _ _ _ _ _ c.in_err-made.field-0.0 k (omega arith) (λ x y h. h)
+    (stops_then (IsWideAmong (products_of c.args.exprs.now c.args.expr)) (IsWideAmong (products_of c.args.exprs.now c.args.expr)) ((c.parts_of.new.steps.taken - c.args.steps.now.taken) + (parts_budget c.args.exprs.now c.args.expr c.as_slice-numbers.result.now)) (2 * weight (size_of c.args.exprs.now c.args.expr).shape) (new_budget c.args.exprs.now c.args.expr) _ _ _ _ _ c.in_err-made.field-0.0 k (omega arith) (λ x y h. h)
     (stops_gives_up (IsWideAmong (products_of c.args.exprs.now c.args.expr)) (2 * weight (size_of c.args.exprs.now c.args.expr).shape) c.build_parts.new.steps c.union_of.new.steps c.in_err-made.field-0.0 (subst (λ n. GivesUp n c.build_parts.new.steps c.union_of.new.steps c.in_err-made.field-0.0) (z ∙ (let y : 2 * store.words (size_of c.args.exprs.now c.args.expr).shape * 2 ^ (length (size_of c.args.exprs.now c.args.expr).shape + 1) ≡ (2 * weight (size_of c.args.exprs.now c.args.expr).shape) = omega arith in y)) c.in_err-made.ensures.refused)))
 
 pub build_union-returns-clause-made : goal.build_union-returns-clause-made
@@ -301,7 +335,7 @@ build_union-returns-clause-grows t c =
     let z = ap (λ x. 2 * store.words x * 2 ^ (length x + 1)) s in
     let h : Grows (2 * weight (size_of c.args.exprs.now c.args.expr).shape) c.build_parts.new.store c.union_of.new.store c.build_parts.new.steps c.union_of.new.steps = record { keeps = c.union_of.ensures.keeps; paid = c.union_of.ensures.paid; limit = c.union_of.ensures.limit; cheap = omega (arith, c.union_of.ensures.steps) } in
     let k : Grows ((c.parts_of.new.steps.taken - c.args.steps.now.taken) + (parts_budget c.args.exprs.now c.args.expr c.as_slice-numbers.result.now)) c.args.store.now c.build_parts.new.store c.args.steps.now c.build_parts.new.steps = grows_then (c.parts_of.new.steps.taken - c.args.steps.now.taken) (parts_budget c.args.exprs.now c.args.expr c.as_slice-numbers.result.now) ((c.parts_of.new.steps.taken - c.args.steps.now.taken) + (parts_budget c.args.exprs.now c.args.expr c.as_slice-numbers.result.now)) _ _ _ _ _ _ g c.build_parts.ensures.grows (omega arith) in
-    grows_then ((c.parts_of.new.steps.taken - c.args.steps.now.taken) + (parts_budget c.args.exprs.now c.args.expr c.as_slice-numbers.result.now)) (2 * weight (size_of c.args.exprs.now c.args.expr).shape) (build_budget c.args.exprs.now c.args.expr) _ _ _ _ _ _ k h (omega arith)
+    grows_then ((c.parts_of.new.steps.taken - c.args.steps.now.taken) + (parts_budget c.args.exprs.now c.args.expr c.as_slice-numbers.result.now)) (2 * weight (size_of c.args.exprs.now c.args.expr).shape) (new_budget c.args.exprs.now c.args.expr) _ _ _ _ _ _ k h (omega arith)
 
 pub build_parts-loop-part-init : goal.build_parts-loop-part-init
 build_parts-loop-part-init t c =
