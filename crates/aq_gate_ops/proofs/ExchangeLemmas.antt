@@ -21,7 +21,7 @@ use Rattle.aq_gate_ops.specs.Exchange.{IsExchange}
 turn-none : (r : Amplitude) → turn 0 r ≡ r
 turn-none r = sym (ap (turn 0) (turn-eight r)) ∙ turn-turn 0 8 r ∙ turn-eight r
 
-some_is : {A : Type 0} (x y : A) → Some x ≡ Some y → x ≡ y
+pub some_is : {A : Type 0} (x y : A) → Some x ≡ Some y → x ≡ y
 some_is x y e = cc
 
 -- each control is above a depth
@@ -41,7 +41,7 @@ module _ {L : Type 0} (parts : L → List Amplitude) (count : ℕ) where
     value = λ k lt. sym (turn-none (part parts k q)) ∙ (sum_with_zero amplitude_zero (turn 0 (part parts k q)) refl).1;
   }))
 
-  mixed_left : (first second : Entry) → first ≡ entry.Unit 0 0 → second ≡ entry.Zero → (p q : L) → IsMixed parts count first second p q p
+  pub mixed_left : (first second : Entry) → first ≡ entry.Unit 0 0 → second ≡ entry.Zero → (p q : L) → IsMixed parts count first second p q p
   mixed_left first second o z p q = subst (λ e. IsMixed parts count e second p q p) (sym o) (subst (λ e. IsMixed parts count (entry.Unit 0 0) e p q p) (sym z) (record {
     left = λ k lt. tt;
     right = λ k lt. tt;

@@ -1,21 +1,24 @@
 -- What is owed for all levels of a tree, with no key counted as another.
-use Rattle.std.proofs.Common.{◌≡◌, ℕ, zero, suc, ◌+◌, ◌-◌, ◌*◌, ◌^◌, ◌<◌, ◌≤◌, ◌⊎◌, inl, inr, Bool, false, List, [], ◌∷◌, ◌++◌, length, drop, get_or, slice_get}
-use Rattle.std.proofs.Common.{Some, refl, sym, ap, ap₂, subst, ◌∙◌, arith, lit≤, true≢false}
+use Rattle.std.proofs.Common.{◌≡◌, ℕ, zero, suc, ◌+◌, ◌-◌, ◌*◌, ◌^◌, ◌<◌, ◌≤◌, ◌⊎◌, inl, inr, Bool, false, List, [], ◌∷◌, ◌++◌, length, map, drop, get_or, slice_get}
+use Rattle.std.proofs.Common.{Some, option_map, refl, sym, ap, ap₂, subst, ◌∙◌, arith, lit≤, true≢false}
 use native.Mathlib.Numerals.{unary_clauses}
 use Rattle.std.specs.List.{fold}
 use Rattle.std.proofs.Math.Nat.{mul-le-mul_left}
-use Rattle.std.proofs.lemmas.List.{length-append}
-use Rattle.std.proofs.lemmas.Option.{slice_get_within}
+use Rattle.std.proofs.lemmas.List.{length-append, length-map}
+use Rattle.std.proofs.lemmas.Option.{slice_get_within, slice_get-map}
 use Rattle.aq_store.specs.declared.node.Node.{Node}
 use Rattle.aq_store.specs.Levels.{sides}
 use Rattle.aq_store.specs.Nodes.{EachPair, HasShape, pairs_at}
-use Rattle.aq_store.specs.Owed.{IsIn, first_of, missing, owed}
+use Rattle.aq_store.specs.Owed.{IsIn, first_of, owed}
 use Rattle.aq_store.specs.Words.{words}
 use Rattle.aq_store.proofs.RunLemmas.{slice_get-append_cases, slice_get-append_left, slice_get-append_right}
 use Rattle.aq_store.proofs.MeansLemmas.{opened}
 use Rattle.aq_store.proofs.OwedLemmas.{missing-none, owed-less}
 use Rattle.aq_store.proofs.TableLemmas.{slice_get-some}
+use Rattle.aq_prog.specs.declared.gate.Gate.{Gate}
 use Rattle.aq_gate_ops.specs.Accounts.{row_prices, gate_prices, ArePairLevels, AreGateLevels, HoldGate}
+use Rattle.aq_gate_ops.specs.Turns.{only_turns, key_of}
+use Rattle.aq_gate_ops.proofs.TurnLemmas.{key_sides}
 
 -- no more is owed than where nothing is done
 pub owed-any : {K : Type 0} → (prices : List ℕ) (done : K → Bool) (levels : List (List K)) → owed prices done levels ≤ owed prices (λ _. false) levels
@@ -120,13 +123,13 @@ met_is P ps qs m n r h = by ps qs m n h.place h.at
 
 -- ---- budgets
 unfoldable pub row_budget : List ℕ → ℕ
-row_budget [] = 3
-row_budget (n ∷ shape) = 2 * n + 1 + n * (2 * row_budget shape)
+row_budget [] = 0
+row_budget (n ∷ shape) = 6 * n + 1 + n * (2 * row_budget shape)
 
 unfoldable pub gate_budget : ℕ → List ℕ → ℕ
 gate_budget m [] = 0
-gate_budget zero (n ∷ shape) = n + 1 + n * row_budget shape
-gate_budget (suc m) (n ∷ shape) = n + 1 + n * (2 * gate_budget m shape)
+gate_budget zero (n ∷ shape) = 3 * n + 1 + n * row_budget shape
+gate_budget (suc m) (n ∷ shape) = 3 * n + 1 + n * (2 * gate_budget m shape)
 
 unfoldable pub many : List ℕ → ℕ
 many [] = 1
@@ -155,22 +158,22 @@ many_some (n ∷ shape) some = omega (arith, some 0 (omega arith), mul-le-mul_le
 power : (m : ℕ) → 2 ^ suc m ≡ 2 * 2 ^ m
 power m = simp unary_clauses (omega arith)
 
-row_step : (n w p b : ℕ) → 1 ≤ n → 1 ≤ w → b + 4 * w ≤ 8 * (w * p) → 2 * n + 1 + n * (2 * b) + 4 * (n * w) ≤ 8 * (n * w * (2 * p))
+row_step : (n w p b : ℕ) → 1 ≤ n → 1 ≤ w → b + 7 * w ≤ 7 * (w * p) → 6 * n + 1 + n * (2 * b) + 7 * (n * w) ≤ 7 * (n * w * (2 * p))
 row_step n w p b some_n some_w h = omega (arith, mul-le-mul_left n h, mul-le-mul_left n some_w)
 
-target_step : (n w p b : ℕ) → 1 ≤ n → 1 ≤ w → b + 4 * w ≤ 8 * (w * p) → n + 1 + n * b + 2 * (n * w) ≤ 4 * (n * w * (2 * p))
+target_step : (n w p b : ℕ) → 1 ≤ n → 1 ≤ w → b + 7 * w ≤ 7 * (w * p) → 3 * n + 1 + n * b + 4 * (n * w) ≤ 4 * (n * w * (2 * p))
 target_step n w p b some_n some_w h = omega (arith, mul-le-mul_left n h, mul-le-mul_left n some_w)
 
-above_step : (n w p b : ℕ) → 1 ≤ n → 1 ≤ w → b + 2 * w ≤ 4 * (w * p) → n + 1 + n * (2 * b) + 2 * (n * w) ≤ 4 * (n * w * (2 * p))
+above_step : (n w p b : ℕ) → 1 ≤ n → 1 ≤ w → b + 4 * w ≤ 4 * (w * p) → 3 * n + 1 + n * (2 * b) + 4 * (n * w) ≤ 4 * (n * w * (2 * p))
 above_step n w p b some_n some_w h = omega (arith, mul-le-mul_left n h, mul-le-mul_left n some_w)
 
-row_most : (shape : List ℕ) → IsSome shape → row_budget shape + 4 * many shape ≤ 8 * (many shape * 2 ^ length shape)
+row_most : (shape : List ℕ) → IsSome shape → row_budget shape + 7 * many shape ≤ 7 * (many shape * 2 ^ length shape)
 unfolding row_budget many
 row_most [] some = lit≤ tt
 row_most (n ∷ shape) some =
     rw (power (length shape)) (row_step n (many shape) (2 ^ length shape) (row_budget shape) (some 0 (omega arith)) (many_some shape (tail_some n shape some)) (row_most shape (tail_some n shape some)))
 
-gate_most : (m : ℕ) (shape : List ℕ) → m < length shape → IsSome shape → gate_budget m shape + 2 * many shape ≤ 4 * (many shape * 2 ^ length shape)
+gate_most : (m : ℕ) (shape : List ℕ) → m < length shape → IsSome shape → gate_budget m shape + 4 * many shape ≤ 4 * (many shape * 2 ^ length shape)
 unfolding gate_budget many
 gate_most m [] lt some = absurd (omega arith)
 gate_most zero (n ∷ shape) lt some =
@@ -187,14 +190,14 @@ gate_steps m shape lt some =
     let one : length shape + 1 ≡ suc (length shape) = omega arith in
     sum_up (words shape) (many shape) (2 ^ length shape) (2 ^ (length shape + 1)) (gate_budget m shape) (words-many shape) (ap (λ k. 2 ^ k) one ∙ power (length shape)) (omega (arith, gate_most m shape lt some))
 
-row_turn : (k n b o : ℕ) → o ≤ 2 * n * k * b → suc (2 * n) * k + o ≤ k * (2 * n + 1 + n * (2 * b))
-row_turn k n b o h = let e : k * (2 * n + 1 + n * (2 * b)) ≡ suc (2 * n) * k + 2 * n * k * b = omega arith in omega arith
+row_turn : (k n b o : ℕ) → o ≤ 2 * n * k * b → suc (6 * n) * k + o ≤ k * (6 * n + 1 + n * (2 * b))
+row_turn k n b o h = let e : k * (6 * n + 1 + n * (2 * b)) ≡ suc (6 * n) * k + 2 * n * k * b = omega arith in omega arith
 
-target_turn : (k n b o : ℕ) → o ≤ n * k * b → suc n * k + o ≤ k * (n + 1 + n * b)
-target_turn k n b o h = let e : k * (n + 1 + n * b) ≡ suc n * k + n * k * b = omega arith in omega arith
+target_turn : (k n b o : ℕ) → o ≤ n * k * b → suc (3 * n) * k + o ≤ k * (3 * n + 1 + n * b)
+target_turn k n b o h = let e : k * (3 * n + 1 + n * b) ≡ suc (3 * n) * k + n * k * b = omega arith in omega arith
 
-above_turn : (k n b o : ℕ) → o ≤ 2 * n * k * b → suc n * k + o ≤ k * (n + 1 + n * (2 * b))
-above_turn k n b o h = let e : k * (n + 1 + n * (2 * b)) ≡ suc n * k + 2 * n * k * b = omega arith in omega arith
+above_turn : (k n b o : ℕ) → o ≤ 2 * n * k * b → suc (3 * n) * k + o ≤ k * (3 * n + 1 + n * (2 * b))
+above_turn k n b o h = let e : k * (3 * n + 1 + n * (2 * b)) ≡ suc (3 * n) * k + 2 * n * k * b = omega arith in omega arith
 
 -- a place of a shape has a choice on each level
 pub positive : {L : Type 0} (table : List (Node L)) (shape : List ℕ) (id : ℕ) → HasShape table shape id → (k : ℕ) → k < length shape → 0 < get_or shape k 0
@@ -206,10 +209,14 @@ positive table (n ∷ shape) id s (suc k) lt =
     positive table shape first.0.0 (s.3.left 0 first.0 first.1) k (omega arith)
 
 -- ---- levels
-module _ {L : Type 0} (table : List (Node L)) where
+module _ {L : Type 0} (gate : Gate) (table : List (Node L)) where
   -- the pairs below a pair, and the places below a place
   abbrev pub met_at : ℕ × ℕ → List (ℕ × ℕ)
   met_at p = met (pairs_at table p.0) (pairs_at table p.1)
+
+  -- the keys of a place at the target
+  abbrev pub keys_at : ℕ → List (ℕ × ℕ)
+  keys_at i = map (key_of (only_turns gate)) (pairs_at table i)
 
   abbrev pub sides_at : ℕ → List ℕ
   sides_at i = sides (pairs_at table i)
@@ -244,12 +251,12 @@ module _ {L : Type 0} (table : List (Node L)) where
 
   row_owed : (none : ℕ × ℕ → Bool) → ((p : ℕ × ℕ) → none p ≡ false) → (shape : List ℕ) (l : List (ℕ × ℕ)) → ArePairs shape l → owed (row_prices shape) none (pair_levels shape l) ≤ length l * row_budget shape
   unfolding owed row_budget
-  row_owed none new [] l all = let a = missing-none none new l in let e : 3 * missing none l ≡ 3 * length l = ap (λ k. 3 * k) a in omega arith
+  row_owed none new [] l all = omega arith
   row_owed none new (n ∷ shape) l all =
       let a = missing-none none new l in
       let b = row_owed none new shape (flat met_at l) (pairs_below n shape l all) in
       let d = ap (λ k. k * row_budget shape) (flat_length met_at (2 * n) l (λ p h. (let s = all p h in met_length n (pairs_at table p.0) (pairs_at table p.1) (opened table n shape p.0 s.0).1 (opened table n shape p.1 s.1).1))) in
-      let e = ap (λ k. suc (2 * n) * k) a in
+      let e = ap (λ k. suc (6 * n) * k) a in
       let f = row_turn (length l) n (row_budget shape) (owed (row_prices shape) none (pair_levels shape (flat met_at l))) (omega arith) in
       omega arith
 
@@ -261,7 +268,7 @@ module _ {L : Type 0} (table : List (Node L)) where
 
   abbrev pub gate_pairs : ℕ → List ℕ → List ℕ → List (List (ℕ × ℕ))
   gate_pairs zero [] l = []
-  gate_pairs zero (n ∷ shape) l = pair_levels shape (flat (pairs_at table) l)
+  gate_pairs zero (n ∷ shape) l = pair_levels shape (flat keys_at l)
   gate_pairs (suc m) [] l = []
   gate_pairs (suc m) (n ∷ shape) l = gate_pairs m shape (flat sides_at l)
 
@@ -276,19 +283,34 @@ module _ {L : Type 0} (table : List (Node L)) where
   places_below : (n : ℕ) (shape l : List ℕ) → ArePlaces (n ∷ shape) l → ArePlaces shape (flat sides_at l)
   places_below n shape l all = flat_all sides_at (HasShape table shape) l (λ i h j g. side_is (HasShape table shape) (pairs_at table i) (opened table n shape i (all i h)).3 j g)
 
-  target_below : (n : ℕ) (shape l : List ℕ) → ArePlaces (n ∷ shape) l → ArePairs shape (flat (pairs_at table) l)
-  target_below n shape l all = flat_all (pairs_at table) (λ r. HasShape table shape r.0 × HasShape table shape r.1) l (λ i h r g.
-      (let o = opened table n shape i (all i h) in (o.3.left g.place r g.at, o.3.right g.place r g.at)))
+  key_at : (ps : List (ℕ × ℕ)) (c : ℕ) (p : ℕ × ℕ) → slice_get ps c ≡ Some p → IsIn (key_of (only_turns gate) p) (map (key_of (only_turns gate)) ps)
+  key_at ps c p e = record { place = c; at = slice_get-map (key_of (only_turns gate)) ps c ∙ ap (option_map (key_of (only_turns gate))) e }
 
-  are_gate_levels : (m : ℕ) (shape l : List ℕ) → ArePlaces shape l → AreGateLevels table m shape (gate_levels m shape l) (gate_pairs m shape l)
+  -- a key is that of a pair
+  key_from : (ps : List (ℕ × ℕ)) (r : ℕ × ℕ) → IsIn r (map (key_of (only_turns gate)) ps) → (w : ℕ × (ℕ × ℕ)) × (slice_get ps w.0 ≡ Some w.1) × (key_of (only_turns gate) w.1 ≡ r)
+  key_from ps r h = by ps h.place h.at
+    where
+      by : (ps : List (ℕ × ℕ)) (k : ℕ) → slice_get (map (key_of (only_turns gate)) ps) k ≡ Some r → (w : ℕ × (ℕ × ℕ)) × (slice_get ps w.0 ≡ Some w.1) × (key_of (only_turns gate) w.1 ≡ r)
+      by [] k e = cc
+      by (p ∷ ps) zero e = ((0, p), refl, (let s : key_of (only_turns gate) p ≡ r = cc in s))
+      by (p ∷ ps) (suc k) e = let w = by ps k e in ((suc w.0.0, w.0.1), w.1, w.2)
+
+  target_below : (n : ℕ) (shape l : List ℕ) → ArePlaces (n ∷ shape) l → ArePairs shape (flat keys_at l)
+  target_below n shape l all = flat_all keys_at (λ r. HasShape table shape r.0 × HasShape table shape r.1) l (λ i h r g.
+      (let o = opened table n shape i (all i h) in
+      let k = key_from (pairs_at table i) r g in
+      subst (λ q. HasShape table shape q.0 × HasShape table shape q.1) k.2
+      (key_sides (HasShape table shape) (only_turns gate) k.0.1 (o.3.left k.0.0 k.0.1 k.1) (o.3.right k.0.0 k.0.1 k.1))))
+
+  are_gate_levels : (m : ℕ) (shape l : List ℕ) → ArePlaces shape l → AreGateLevels table gate m shape (gate_levels m shape l) (gate_pairs m shape l)
   unfolding AreGateLevels
   are_gate_levels zero [] l all = tt
   are_gate_levels zero (n ∷ shape) l all = (
     record {
       shaped = all;
-      pairs = λ i c p h e. subst (IsIn p) (sym (first_pairs shape (flat (pairs_at table) l))) (flat_has (pairs_at table) l h.place i p h.at (record { place = c; at = e }));
+      pairs = λ i c p h e. subst (IsIn (key_of (only_turns gate) p)) (sym (first_pairs shape (flat keys_at l))) (flat_has keys_at l h.place i (key_of (only_turns gate) p) h.at (key_at (pairs_at table i) c p e));
     },
-    are_pair_levels shape (flat (pairs_at table) l) (target_below n shape l all),
+    are_pair_levels shape (flat keys_at l) (target_below n shape l all),
   )
   are_gate_levels (suc m) [] l all = tt
   are_gate_levels (suc m) (n ∷ shape) l all = (
@@ -305,13 +327,13 @@ module _ {L : Type 0} (table : List (Node L)) where
   unfolding owed gate_budget
   gate_bound none new free fresh m [] l lt all = absurd (omega arith)
   gate_bound none new free fresh zero (n ∷ shape) l lt all =
-      let a = ap (λ k. suc n * k) (missing-none none new l) in
-      let b = row_owed free fresh shape (flat (pairs_at table) l) (target_below n shape l all) in
-      let d = ap (λ k. k * row_budget shape) (flat_length (pairs_at table) n l (λ i h. (opened table n shape i (all i h)).1)) in
-      let f = target_turn (length l) n (row_budget shape) (owed (row_prices shape) free (pair_levels shape (flat (pairs_at table) l))) (omega arith) in
+      let a = ap (λ k. suc (3 * n) * k) (missing-none none new l) in
+      let b = row_owed free fresh shape (flat keys_at l) (target_below n shape l all) in
+      let d = ap (λ k. k * row_budget shape) (flat_length keys_at n l (λ i h. length-map (pairs_at table i) (key_of (only_turns gate)) ∙ (opened table n shape i (all i h)).1)) in
+      let f = target_turn (length l) n (row_budget shape) (owed (row_prices shape) free (pair_levels shape (flat keys_at l))) (omega arith) in
       omega arith
   gate_bound none new free fresh (suc m) (n ∷ shape) l lt all =
-      let a = ap (λ k. suc n * k) (missing-none none new l) in
+      let a = ap (λ k. suc (3 * n) * k) (missing-none none new l) in
       let b = gate_bound none new free fresh m shape (flat sides_at l) (omega arith) (places_below n shape l all) in
       let d = ap (λ k. k * gate_budget m shape) (flat_length sides_at (2 * n) l (λ i h. (let o = (opened table n shape i (all i h)).1 in length-sides (pairs_at table i) ∙ ap (λ k. 2 * k) o))) in
       let f = above_turn (length l) n (gate_budget m shape)
@@ -328,7 +350,7 @@ module _ {L : Type 0} (table : List (Node L)) where
   -- levels that hold a root, and what is owed for them where nothing is done
   gate_root_new : (none : ℕ → Bool) → ((i : ℕ) → none i ≡ false) → (free : ℕ × ℕ → Bool) → ((p : ℕ × ℕ) → free p ≡ false) → (m : ℕ) (copy shape : List ℕ) (root : ℕ) → copy ≡ shape → m < length copy → IsSome copy
       → HasShape table copy root
-      → (levels : List (List ℕ)) × (pairs : List (List (ℕ × ℕ))) × HoldGate table m copy root levels pairs
+      → (levels : List (List ℕ)) × (pairs : List (List (ℕ × ℕ))) × HoldGate table gate m copy root levels pairs
       × (owed (gate_prices (suc m) copy) none levels + owed (row_prices (drop (suc m) copy)) free pairs ≤ 2 * words shape * 2 ^ (length shape + 1))
   gate_root_new none new free fresh m copy shape root is lt some s =
       let all = λ (i : ℕ) (h : IsIn i (root ∷ [])). only copy root i h s in
@@ -344,7 +366,7 @@ module _ {L : Type 0} (table : List (Node L)) where
   -- the same, whatever is done
   pub gate_root : (done : ℕ → Bool) (made : ℕ × ℕ → Bool) → (m : ℕ) (copy shape : List ℕ) (root : ℕ) → copy ≡ shape → m < length copy → IsSome copy
       → HasShape table copy root
-      → (levels : List (List ℕ)) × (pairs : List (List (ℕ × ℕ))) × HoldGate table m copy root levels pairs
+      → (levels : List (List ℕ)) × (pairs : List (List (ℕ × ℕ))) × HoldGate table gate m copy root levels pairs
       × (owed (gate_prices (suc m) copy) done levels + owed (row_prices (drop (suc m) copy)) made pairs ≤ 2 * words shape * 2 ^ (length shape + 1))
   gate_root done made m copy shape root is lt some s =
       let r = gate_root_new (λ _. false) (λ i. refl) (λ _. false) (λ p. refl) m copy shape root is lt some s in

@@ -13,6 +13,9 @@ use Rattle.aq_store.specs.Nodes.{HasShape, pairs_at}
 use Rattle.aq_store.specs.Owed.{IsIn, first_of, owed}
 use Rattle.aq_store.proofs.OwedLemmas.{missing-none}
 use Rattle.aq_store.proofs.MeansLemmas.{opened}
+use Rattle.aq_prog.specs.declared.gate.Gate.{Gate}
+use Rattle.aq_gate_ops.specs.Turns.{only_turns, key_of}
+use Rattle.aq_gate_ops.proofs.TurnLemmas.{key_sides}
 use Rattle.aq_gate_ops.specs.Counts.{node_count, pair_count}
 use Rattle.aq_gate_ops.specs.Accounts.{row_prices, gate_prices, ones, ArePairLevels, AreGateLevels, HoldGate}
 use Rattle.aq_gate_ops.proofs.GateBounds.{owed-any, flat, in_left, in_right, in_either, flat_has, flat_all, side_is, sides_left, sides_right, sides_at, only}
@@ -139,20 +142,20 @@ target_couples zero (l ∷ ls) = couples_of ls
 target_couples (suc m) (l ∷ ls) = target_couples m ls
 
 -- ---- levels
-module _ {L : Type 0} (table : List (Node L)) where
-  children_flat : (l : List ℕ) → children_of table l ≡ flat (sides_at table) l
+module _ {L : Type 0} (gate : Gate) (table : List (Node L)) where
+  children_flat : (l : List ℕ) → children_of table l ≡ flat (sides_at gate table) l
   children_flat [] = refl
   children_flat (i ∷ l) = ap (λ u. sides (pairs_at table i) ++ u) (children_flat l)
 
   abbrev ArePlaces : List ℕ → List ℕ → Type 0
   ArePlaces shape l = (i : ℕ) → IsIn i l → HasShape table shape i
 
-  next_in : (l : List ℕ) (i j : ℕ) → IsIn i l → IsIn j (sides_at table i) → IsIn j (next_level table l)
-  next_in l i j h g = all_in [] (children_of table l) j (subst (IsIn j) (sym (children_flat l)) (flat_has (sides_at table) l h.place i j h.at g))
+  next_in : (l : List ℕ) (i j : ℕ) → IsIn i l → IsIn j (sides_at gate table i) → IsIn j (next_level table l)
+  next_in l i j h g = all_in [] (children_of table l) j (subst (IsIn j) (sym (children_flat l)) (flat_has (sides_at gate table) l h.place i j h.at g))
 
   next_shaped : (n : ℕ) (shape l : List ℕ) → ArePlaces (n ∷ shape) l → ArePlaces shape (next_level table l)
   next_shaped n shape l all = all_is (HasShape table shape) [] (children_of table l) (λ x h. (let none = h.at in cc))
-      (λ j h. flat_all (sides_at table) (HasShape table shape) l (λ i g k m. side_is (HasShape table shape) (pairs_at table i) (opened table n shape i (all i g)).3 k m) j (subst (IsIn j) (children_flat l) h))
+      (λ j h. flat_all (sides_at gate table) (HasShape table shape) l (λ i g k m. side_is (HasShape table shape) (pairs_at table i) (opened table n shape i (all i g)).3 k m) j (subst (IsIn j) (children_flat l) h))
 
   first_level : (shape l : List ℕ) → first_of (levels_from table shape l) ≡ l
   first_level [] l = refl
@@ -178,15 +181,16 @@ module _ {L : Type 0} (table : List (Node L)) where
     couple_levels shape (next_level table l) (next_shaped n shape l all),
   )
 
-  gate_couples : (m : ℕ) (shape l : List ℕ) → ArePlaces shape l → AreGateLevels table m shape (levels_from table shape l) (target_couples m (levels_from table shape l))
+  gate_couples : (m : ℕ) (shape l : List ℕ) → ArePlaces shape l → AreGateLevels table gate m shape (levels_from table shape l) (target_couples m (levels_from table shape l))
   unfolding AreGateLevels target_couples
   gate_couples zero [] l all = tt
   gate_couples (suc m) [] l all = tt
   gate_couples zero (n ∷ shape) l all = (
     record {
       shaped = all;
-      pairs = λ i c p h e. subst (IsIn p) (sym (first_couples shape (next_level table l))) (couple_in (next_level table l) p.0 p.1
-          (next_in l i p.0 h (sides_left (pairs_at table i) c p e)) (next_in l i p.1 h (sides_right (pairs_at table i) c p e)));
+      pairs = λ i c p h e. (let k = key_of (only_turns gate) p in
+          let in_next = key_sides (λ j. IsIn j (next_level table l)) (only_turns gate) p (next_in l i p.0 h (sides_left (pairs_at table i) c p e)) (next_in l i p.1 h (sides_right (pairs_at table i) c p e)) in
+          subst (IsIn k) (sym (first_couples shape (next_level table l))) (couple_in (next_level table l) k.0 k.1 in_next.0 in_next.1));
     },
     couple_levels shape (next_level table l) (next_shaped n shape l all),
   )
@@ -224,12 +228,12 @@ target_counted none new prices zero (l ∷ ls) = let b = couples_counted none ne
 target_counted none new prices (suc m) (l ∷ ls) = let b = target_counted none new prices m ls in omega arith
 
 -- levels that hold the root, and their keys, where nothing is done
-gate_counted_new : {L : Type 0} (table : List (Node L)) (none : ℕ → Bool) → ((i : ℕ) → none i ≡ false) → (free : ℕ × ℕ → Bool) → ((p : ℕ × ℕ) → free p ≡ false) → (m : ℕ) (copy : List ℕ) (lsta : Lsta) → copy ≡ lsta.shape.items
+gate_counted_new : {L : Type 0} (gate : Gate) (table : List (Node L)) (none : ℕ → Bool) → ((i : ℕ) → none i ≡ false) → (free : ℕ × ℕ → Bool) → ((p : ℕ × ℕ) → free p ≡ false) → (m : ℕ) (copy : List ℕ) (lsta : Lsta) → copy ≡ lsta.shape.items
     → HasShape table copy lsta.root
-    → (levels : List (List ℕ)) × (pairs : List (List (ℕ × ℕ))) × HoldGate table m copy lsta.root levels pairs
+    → (levels : List (List ℕ)) × (pairs : List (List (ℕ × ℕ))) × HoldGate table gate m copy lsta.root levels pairs
     × (owed (ones (gate_prices (suc m) copy)) none levels + owed (ones (row_prices (drop (suc m) copy))) free pairs ≤ node_count (levels_of table lsta) + pair_count (levels_of table lsta))
-gate_counted_new table none new free fresh m copy lsta is s =
-    let all = λ (i : ℕ) (h : IsIn i (lsta.root ∷ [])). only table copy lsta.root i h s in
+gate_counted_new gate table none new free fresh m copy lsta is s =
+    let all = λ (i : ℕ) (h : IsIn i (lsta.root ∷ [])). only gate table copy lsta.root i h s in
     let levels = levels_from table copy (lsta.root ∷ []) in
     let same = ap (λ u. levels_from table u (lsta.root ∷ [])) is in
     let a = places_counted none new (gate_prices (suc m) copy) levels in
@@ -238,17 +242,17 @@ gate_counted_new table none new free fresh m copy lsta is s =
     let e = ap pair_count same in (
       levels,
       target_couples m levels,
-      record { closed = gate_couples table m copy (lsta.root ∷ []) all; here = subst (IsIn lsta.root) (sym (first_level table copy (lsta.root ∷ []))) (record { place = 0; at = refl }) },
+      record { closed = gate_couples gate table m copy (lsta.root ∷ []) all; here = subst (IsIn lsta.root) (sym (first_level gate table copy (lsta.root ∷ []))) (record { place = 0; at = refl }) },
       omega arith,
     )
 
 -- the same, whatever is done
-pub gate_counted : {L : Type 0} (table : List (Node L)) (done : ℕ → Bool) (made : ℕ × ℕ → Bool) → (m : ℕ) (copy : List ℕ) (lsta : Lsta) → copy ≡ lsta.shape.items
+pub gate_counted : {L : Type 0} (gate : Gate) (table : List (Node L)) (done : ℕ → Bool) (made : ℕ × ℕ → Bool) → (m : ℕ) (copy : List ℕ) (lsta : Lsta) → copy ≡ lsta.shape.items
     → HasShape table copy lsta.root
-    → (levels : List (List ℕ)) × (pairs : List (List (ℕ × ℕ))) × HoldGate table m copy lsta.root levels pairs
+    → (levels : List (List ℕ)) × (pairs : List (List (ℕ × ℕ))) × HoldGate table gate m copy lsta.root levels pairs
     × (owed (ones (gate_prices (suc m) copy)) done levels + owed (ones (row_prices (drop (suc m) copy))) made pairs ≤ node_count (levels_of table lsta) + pair_count (levels_of table lsta))
-gate_counted table done made m copy lsta is s =
-    let r = gate_counted_new table (λ _. false) (λ i. refl) (λ _. false) (λ p. refl) m copy lsta is s in
+gate_counted gate table done made m copy lsta is s =
+    let r = gate_counted_new gate table (λ _. false) (λ i. refl) (λ _. false) (λ p. refl) m copy lsta is s in
     let a = owed-any (ones (gate_prices (suc m) copy)) done r.0 in
     let b = owed-any (ones (row_prices (drop (suc m) copy))) made r.1 in (
       r.0,

@@ -52,9 +52,16 @@ module _ {K : Type 0} where
       record { all = omega arith; besides = omega arith }
 
 module _ {L : Type 0} where
+  -- more may be taken than is
+  pub pays_more : (a b k m d e : ℕ) (start last : List (Node L)) (t u : Count) → d ≤ e → Pays (a + d) b k m start last t u → Pays (a + e) b k m start last t u
+  pays_more a b k m d e start last t u le h =
+      let p = h.all in
+      record { all = omega arith; besides = h.besides }
+
   -- one call after another
-  pub pays_then : (a b c k m n : ℕ) (start middle last : List (Node L)) (t u v : Count) → Pays a b k m start middle t u → Pays (b + 0) c m n middle last u v → Pays a c k n start last t v
-  pays_then a b c k m n start middle last t u v first second =
+  pub pays_then : (a b c k m n d e f : ℕ) (start middle last : List (Node L)) (t u v : Count) → d + e ≤ f → Pays (a + d) b k m start middle t u → Pays (b + e) c m n middle last u v
+      → Pays (a + f) c k n start last t v
+  pays_then a b c k m n d e f start middle last t u v le first second =
       let p = first.all in
       let q = first.besides in
       let r = second.all in
@@ -62,55 +69,41 @@ module _ {L : Type 0} where
       record { all = omega arith; besides = omega arith }
 
   -- and then nodes
-  pub pays_nodes : (a b k m e : ℕ) (start middle last : List (Node L)) (t u v : Count) → Pays (a + 0) b k m start middle t u → v.taken ≤ u.taken + e → v.taken + total_cost middle ≤ u.taken + total_cost last
-      → Pays (a + e) b k m start last t v
-  pays_nodes a b k m e start middle last t u v first le few =
+  pub pays_nodes : (a b k m d e f : ℕ) (start middle last : List (Node L)) (t u v : Count) → d + e ≤ f → Pays (a + d) b k m start middle t u → v.taken ≤ u.taken + e
+      → v.taken + total_cost middle ≤ u.taken + total_cost last → Pays (a + f) b k m start last t v
+  pays_nodes a b k m d e f start middle last t u v le first cheap few =
       let p = first.all in
       let q = first.besides in
       record { all = omega arith; besides = omega arith }
 
-  pub pays_nothing : (a k : ℕ) (table : List (Node L)) (t : Count) → Pays (a + 0) a k k table table t t
-  pays_nothing a k table t = record { all = omega arith; besides = omega arith }
+  pub pays_nothing : (a e k : ℕ) (table : List (Node L)) (t : Count) → Pays (a + e) a k k table table t t
+  pays_nothing a e k table t = record { all = omega arith; besides = omega arith }
+
+  -- two leaves, of which there is no key
+  pub pays_leaves : (a k : ℕ) (start last : List (Node L)) (t u : Count) → u.taken ≤ t.taken + 2 → u.taken + total_cost start ≤ t.taken + total_cost last → Pays (a + 2) a k k start last t u
+  pays_leaves a k start last t u two few = record { all = omega arith; besides = omega arith }
 
   -- both rows of a key are done
   pub row_paid : (above below : List ℕ) (n : ℕ) → above ≡ n ∷ below → (before middle after : ℕ × ℕ → Bool) → ((k : ℕ × ℕ) → before k ≡ true → middle k ≡ true) → ((k : ℕ × ℕ) → middle k ≡ true → after k ≡ true)
       → (levels : List (List (ℕ × ℕ))) (k : ℕ × ℕ) (start last : List (Node L)) (t u v : Count) → IsIn k (first_of levels) → before k ≡ false → after k ≡ true → v.taken ≤ u.taken + 1
-      → Pays (owed (row_prices below) before (rest_of levels) + 2 * n) (owed (row_prices below) middle (rest_of levels))
+      → Pays (owed (row_prices below) before (rest_of levels) + 6 * n) (owed (row_prices below) middle (rest_of levels))
       (owed (ones (row_prices below)) before (rest_of levels)) (owed (ones (row_prices below)) middle (rest_of levels)) start last t u
-      → Pays (owed (row_prices above) before levels + 0) (owed (row_prices above) after levels) (owed (ones (row_prices above)) before levels) (owed (ones (row_prices above)) after levels) start last t v
+      → Pays (owed (row_prices above) before levels + 2) (owed (row_prices above) after levels) (owed (ones (row_prices above)) before levels) (owed (ones (row_prices above)) after levels) start last t v
   row_paid above below n split before middle after more next levels k start last t u v at new now le h =
       let a = h.all in
       let b = h.besides in
-      let d = key_paid (suc (2 * n)) (row_prices below) before middle after more next levels k 0 0 0 0 start last t v at new now (omega arith) (omega arith) in
+      let d = key_paid (suc (6 * n)) (row_prices below) before middle after more next levels k 0 0 0 0 start last t v at new now (omega arith) (omega arith) in
       let e = d.all in
       let f = d.besides in
-      subst (λ s. Pays (owed (row_prices s) before levels + 0) (owed (row_prices s) after levels) (owed (ones (row_prices s)) before levels) (owed (ones (row_prices s)) after levels) start last t v) (sym split)
-      (record { all = omega arith; besides = omega arith })
-
-  pub leaf_paid : (above : List ℕ) → above ≡ [] → (before after : ℕ × ℕ → Bool) → ((k : ℕ × ℕ) → before k ≡ true → after k ≡ true)
-      → (levels : List (List (ℕ × ℕ))) (k : ℕ × ℕ) (start last : List (Node L)) (t u v : Count) → IsIn k (first_of levels) → before k ≡ false → after k ≡ true → v.taken ≤ u.taken + 1
-      → u.taken ≤ t.taken + 2 → u.taken + total_cost start ≤ t.taken + total_cost last
-      → Pays (owed (row_prices above) before levels + 0) (owed (row_prices above) after levels) (owed (ones (row_prices above)) before levels) (owed (ones (row_prices above)) after levels) start last t v
-  unfolding owed
-  leaf_paid above is before after more levels k start last t u v at new now le two few =
-      let d = key_paid 3 [] before before after (λ q h. h) more levels k 0 0 0 0 start last t v at new now (omega arith) (omega arith) in
-      let e = d.all in
-      let f = d.besides in
-      subst (λ s. Pays (owed (row_prices s) before levels + 0) (owed (row_prices s) after levels) (owed (ones (row_prices s)) before levels) (owed (ones (row_prices s)) after levels) start last t v) (sym is)
+      subst (λ s. Pays (owed (row_prices s) before levels + 2) (owed (row_prices s) after levels) (owed (ones (row_prices s)) before levels) (owed (ones (row_prices s)) after levels) start last t v) (sym split)
       (record { all = omega arith; besides = omega arith })
 
 -- what is owed for a key that isn't done
 pub row_more : (above below : List ℕ) (n : ℕ) → above ≡ n ∷ below → (before : ℕ × ℕ → Bool) (levels : List (List (ℕ × ℕ))) (k : ℕ × ℕ) → IsIn k (first_of levels) → before k ≡ false
-    → owed (row_prices below) before (rest_of levels) + suc (2 * n) ≤ owed (row_prices above) before levels
+    → owed (row_prices below) before (rest_of levels) + suc (6 * n) ≤ owed (row_prices above) before levels
 row_more above below n split before levels k at new =
-    subst (λ s. owed (row_prices below) before (rest_of levels) + suc (2 * n) ≤ owed (row_prices s) before levels) (sym split)
-    (owed_more (suc (2 * n)) (row_prices below) before levels k at new)
-
-pub leaf_more : (above : List ℕ) → above ≡ [] → (before : ℕ × ℕ → Bool) (levels : List (List (ℕ × ℕ))) (k : ℕ × ℕ) → IsIn k (first_of levels) → before k ≡ false
-    → 3 ≤ owed (row_prices above) before levels
-unfolding owed
-leaf_more above is before levels k at new =
-    subst (λ s. 3 ≤ owed (row_prices s) before levels) (sym is) (let h = owed_more 3 [] before levels k at new in omega arith)
+    subst (λ s. owed (row_prices below) before (rest_of levels) + suc (6 * n) ≤ owed (row_prices s) before levels) (sym split)
+    (owed_more (suc (6 * n)) (row_prices below) before levels k at new)
 
 -- a pair that was just put is done
 pub pair_put : (old new : PairMemo) (key made : ℕ × ℕ) → PutsPair old new key made → is_made new key ≡ true

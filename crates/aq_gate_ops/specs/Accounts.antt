@@ -11,18 +11,22 @@ use Rattle.aq_store.specs.declared.memo.PairMemo.{PairMemo}
 use Rattle.aq_store.specs.declared.node.Node.{Node}
 use Rattle.aq_store.specs.declared.store.Stop.{Stop}
 use Rattle.aq_store.specs.declared.store.Stop.TheVariants.{Spent}
+use Rattle.aq_prog.specs.declared.gate.Gate.{Gate}
+use Rattle.aq_gate_ops.specs.Turns.{only_turns, key_of}
 
 -- ---- prices
--- of an ordered pair of places, by the shape below: both rows' nodes, and an entry of the memo
+-- Of an ordered pair of places, by the shape below: both rows' nodes, what may be leaves under each choice, and an
+-- entry of the memo. Leaves have no entry: two leaves take at most two steps each time that they are met, which are in
+-- the price of what stands above.
 abbrev pub row_prices : List ℕ → List ℕ
-row_prices [] = 3 ∷ []
-row_prices (n ∷ shape) = suc (2 * n) ∷ row_prices shape
+row_prices [] = []
+row_prices (n ∷ shape) = suc (6 * n) ∷ row_prices shape
 
--- of a place, for so many levels: its node, and an entry of the memo
+-- of a place, for so many levels: its node, what may be leaves under each choice, and an entry of the memo
 abbrev pub gate_prices : ℕ → List ℕ → List ℕ
 gate_prices zero shape = []
 gate_prices (suc k) [] = []
-gate_prices (suc k) (n ∷ shape) = suc n ∷ gate_prices k shape
+gate_prices (suc k) (n ∷ shape) = suc (3 * n) ∷ gate_prices k shape
 
 -- one step for each key
 abbrev pub ones : List ℕ → List ℕ
@@ -69,15 +73,19 @@ gate_keys k shape memo rows levels pairs =
     owed (ones (gate_prices k shape)) (is_done (memo_at memo)) levels + owed (ones (row_prices (drop k shape))) (is_made rows) pairs
 
 module _ {L : Type 0} where
-  abbrev pub PaysGate : (List (List ℕ) → List (List (ℕ × ℕ)) → Type 0) → ℕ → List ℕ → Memo → PairMemo → Memo → PairMemo → List (Node L) → List (Node L) → Count → Count → Type 0
-  PaysGate H k shape memo_old rows_old memo_new rows_new old new before now =
+  abbrev pub PaysGate : (List (List ℕ) → List (List (ℕ × ℕ)) → Type 0) → ℕ → List ℕ → ℕ
+      → Memo → PairMemo → Memo → PairMemo → List (Node L) → List (Node L) → Count → Count → Type 0
+  PaysGate H k shape more memo_old rows_old memo_new rows_new old new before now =
       (levels : List (List ℕ)) (pairs : List (List (ℕ × ℕ))) → H levels pairs
-      → Pays (gate_owed k shape memo_old rows_old levels pairs) (gate_owed k shape memo_new rows_new levels pairs)
+      → Pays (gate_owed k shape memo_old rows_old levels pairs + more)
+      (gate_owed k shape memo_new rows_new levels pairs)
       (gate_keys k shape memo_old rows_old levels pairs) (gate_keys k shape memo_new rows_new levels pairs) old new before now
 
-  abbrev pub StopsGate : (List (List ℕ) → List (List (ℕ × ℕ)) → Type 0) → ℕ → List ℕ → Memo → PairMemo → Count → Count → Stop L → Type 0
-  StopsGate H k shape memo rows before now why =
-      (levels : List (List ℕ)) (pairs : List (List (ℕ × ℕ))) → H levels pairs → IsStopped (gate_owed k shape memo rows levels pairs) before now why
+  abbrev pub StopsGate : (List (List ℕ) → List (List (ℕ × ℕ)) → Type 0) → ℕ → List ℕ → ℕ
+      → Memo → PairMemo → Count → Count → Stop L → Type 0
+  StopsGate H k shape more memo rows before now why =
+      (levels : List (List ℕ)) (pairs : List (List (ℕ × ℕ))) → H levels pairs
+      → IsStopped (gate_owed k shape memo rows levels pairs + more) before now why
 
 -- ---- what the levels hold
 module _ {L : Type 0} (table : List (Node L)) where
@@ -109,29 +117,31 @@ module _ {L : Type 0} (table : List (Node L)) where
   pub record HoldBelow (shape : List ℕ) (p : ℕ × ℕ) (levels : List (List (ℕ × ℕ))) : Type 0 where
     pub each : (a b : ℕ × ℕ) (c : ℕ) → slice_get (pairs_at table p.0) c ≡ Some a → slice_get (pairs_at table p.1) c ≡ Some b → HoldTwo shape a b levels
 
-  -- each place has the shape, and the next level has its pairs
-  pub record IsTargetLevel (shape : List ℕ) (l : List ℕ) (next : List (ℕ × ℕ)) : Type 0 where
-    pub shaped : (i : ℕ) → IsIn i l → HasShape table shape i
-    pub pairs : (i c : ℕ) (p : ℕ × ℕ) → IsIn i l → slice_get (pairs_at table i) c ≡ Some p → IsIn p next
+  module _ (gate : Gate) where
+    -- each place has the shape, and the next level has the keys of its pairs
+    pub record IsTargetLevel (shape : List ℕ) (l : List ℕ) (next : List (ℕ × ℕ)) : Type 0 where
+      pub shaped : (i : ℕ) → IsIn i l → HasShape table shape i
+      pub pairs : (i c : ℕ) (p : ℕ × ℕ) → IsIn i l → slice_get (pairs_at table i) c ≡ Some p
+          → IsIn (key_of (only_turns gate) p) next
 
-  -- levels of places, of which so many stand above the target, and of pairs below it
-  unfoldable pub AreGateLevels : ℕ → List ℕ → List (List ℕ) → List (List (ℕ × ℕ)) → Type 0
-  AreGateLevels m [] levels pairs = Unit {0}
-  AreGateLevels zero (n ∷ shape) levels pairs = IsTargetLevel (n ∷ shape) (first_of levels) (first_of pairs) × ArePairLevels shape pairs
-  AreGateLevels (suc m) (n ∷ shape) [] pairs = Unit {0}
-  AreGateLevels (suc m) (n ∷ shape) (l ∷ ls) pairs = IsLevel table (n ∷ shape) l (first_of ls) × AreGateLevels m shape ls pairs
+    -- levels of places, of which so many stand above the target, and of pairs below it
+    unfoldable pub AreGateLevels : ℕ → List ℕ → List (List ℕ) → List (List (ℕ × ℕ)) → Type 0
+    AreGateLevels m [] levels pairs = Unit {0}
+    AreGateLevels zero (n ∷ shape) levels pairs = IsTargetLevel (n ∷ shape) (first_of levels) (first_of pairs) × ArePairLevels shape pairs
+    AreGateLevels (suc m) (n ∷ shape) [] pairs = Unit {0}
+    AreGateLevels (suc m) (n ∷ shape) (l ∷ ls) pairs = IsLevel table (n ∷ shape) l (first_of ls) × AreGateLevels m shape ls pairs
 
-  -- the levels hold a place, with so many levels above the target, and all below
-  pub record HoldGate (m : ℕ) (shape : List ℕ) (id : ℕ) (levels : List (List ℕ)) (pairs : List (List (ℕ × ℕ))) : Type 0 where
-    pub closed : AreGateLevels m shape levels pairs
-    pub here : IsIn id (first_of levels)
+    -- the levels hold a place, with so many levels above the target, and all below
+    pub record HoldGate (m : ℕ) (shape : List ℕ) (id : ℕ) (levels : List (List ℕ)) (pairs : List (List (ℕ × ℕ))) : Type 0 where
+      pub closed : AreGateLevels m shape levels pairs
+      pub here : IsIn id (first_of levels)
 
-  pub record HoldSides (m : ℕ) (shape : List ℕ) (p : ℕ × ℕ) (levels : List (List ℕ)) (pairs : List (List (ℕ × ℕ))) : Type 0 where
-    pub closed : AreGateLevels m shape levels pairs
-    pub left : IsIn p.0 (first_of levels)
-    pub right : IsIn p.1 (first_of levels)
+    pub record HoldSides (m : ℕ) (shape : List ℕ) (p : ℕ × ℕ) (levels : List (List ℕ)) (pairs : List (List (ℕ × ℕ))) : Type 0 where
+      pub closed : AreGateLevels m shape levels pairs
+      pub left : IsIn p.0 (first_of levels)
+      pub right : IsIn p.1 (first_of levels)
 
-  -- they hold a pair of a place: as one key where the place is at the target, and else both sides
-  abbrev pub HoldGatePair : ℕ → List ℕ → ℕ × ℕ → List (List ℕ) → List (List (ℕ × ℕ)) → Type 0
-  HoldGatePair zero shape p levels pairs = HoldKey shape p pairs
-  HoldGatePair (suc m) shape p levels pairs = HoldSides m shape p levels pairs
+    -- they hold a pair of a place: by its key where the place is at the target, and else both sides
+    abbrev pub HoldGatePair : ℕ → List ℕ → ℕ × ℕ → List (List ℕ) → List (List (ℕ × ℕ)) → Type 0
+    HoldGatePair zero shape p levels pairs = HoldKey shape (key_of (only_turns gate) p) pairs
+    HoldGatePair (suc m) shape p levels pairs = HoldSides m shape p levels pairs

@@ -11,7 +11,7 @@ ghost use Rattle.aq_gate_ops.specs.Action.{IsActed, IsActing, IsActMemo, IsAppli
 ghost use Rattle.aq_gate_ops.specs.Causes.{IsCause, PlaceCause, PairCause, IsGateCause};
 ghost use Rattle.aq_gate_ops.specs.Counts.{node_count, pair_count};
 
-use crate::rows::{is_control, mix_at};
+use crate::rows::{is_control, mix_sides};
 use aq_label::Label;
 use aq_prog::Gate;
 use aq_store::{Id, Lsta, Memo, PairMemo, Pairs, Steps, Stop, Store};
@@ -71,13 +71,13 @@ fn act_at<L: Label>(
     ensures limit { steps.new.limit ≡ steps.old.limit }
     ensures steps { let below = drop depth shape.now in
         let above = gate.now.target - depth in
-        let holds = HoldGate store.old above below id in
-        let pays = PaysGate holds (suc above) below memo.old rows.old memo.new rows.new in
+        let holds = HoldGate store.old gate.now above below id in
+        let pays = PaysGate holds (suc above) below 0 memo.old rows.old memo.new rows.new in
         OnOk result (pays store.old store.new steps.old steps.new) }
     ensures refused { let below = drop depth shape.now in
         let above = gate.now.target - depth in
-        let holds = HoldGate store.old above below id in
-        IfErr result (StopsGate holds (suc above) below memo.old rows.old steps.old steps.new) }
+        let holds = HoldGate store.old gate.now above below id in
+        IfErr result (StopsGate holds (suc above) below 0 memo.old rows.old steps.old steps.new) }
     ensures cause { IfErr result (IsCause (PlaceCause L.parts L.part_count gate.now shape.now depth store.old id)) }
 {
     if let Some(made) = memo.get(id) {
@@ -131,17 +131,17 @@ fn act_pair<L: Label>(
     ensures limit { steps.new.limit ≡ steps.old.limit }
     ensures steps { let below = drop (depth + 1) shape.now in
         let above = gate.now.target - depth in
-        let holds = HoldGatePair store.old above below pair in
-        let pays = PaysGate holds above below memo.old rows.old memo.new rows.new in
+        let holds = HoldGatePair store.old gate.now above below pair in
+        let pays = PaysGate holds above below 2 memo.old rows.old memo.new rows.new in
         OnOk result (pays store.old store.new steps.old steps.new) }
     ensures refused { let below = drop (depth + 1) shape.now in
         let above = gate.now.target - depth in
-        let holds = HoldGatePair store.old above below pair in
-        IfErr result (StopsGate holds above below memo.old rows.old steps.old steps.new) }
+        let holds = HoldGatePair store.old gate.now above below pair in
+        IfErr result (StopsGate holds above below 2 memo.old rows.old steps.old steps.new) }
     ensures cause { IfErr result (IsCause (PairCause L.parts L.part_count gate.now shape.now depth store.old pair)) }
 {
     if depth == gate.target {
-        let (first, second) = mix_at(
+        let (first, second) = mix_sides(
             alloc,
             store,
             rows,

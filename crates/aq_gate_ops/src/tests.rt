@@ -101,6 +101,24 @@ fn exchanges(alloc: Global) -> Result<bool, Fail> {
     Ok(made.root == wanted)
 }
 
+/// Whether `z` turns the right side of each pair, and leaves the left one.
+fn turns(alloc: Global) -> Result<bool, Fail> {
+    let mut store = Store::<Amp>::new(alloc);
+    let mut steps = Steps::new(100);
+    let one = leaf(&mut store, Amp::one(), &mut steps)?;
+    let zero = leaf(&mut store, Amp::zero(), &mut steps)?;
+    let minus = leaf(&mut store, Amp::one().turn(4), &mut steps)?;
+    let root = above(&mut store, &[], (one, one), (zero, one), &mut steps)?;
+    let wanted = above(&mut store, &[], (one, minus), (zero, minus), &mut steps)?;
+    let lsta = Lsta {
+        root,
+        shape: vec![in alloc; 2]?,
+    };
+    let gate = alone(alloc, 1, b"z", 0)?;
+    let made = apply(alloc, &mut store, &lsta, &gate, &mut steps)?;
+    Ok(made.root == wanted)
+}
+
 /// Whether `h` on two amplitudes that are as large as can be is refused, with its two terms: each quotient fits, and
 /// their sum doesn't.
 fn refuses(alloc: Global) -> Result<bool, Fail> {
@@ -124,6 +142,12 @@ fn refuses(alloc: Global) -> Result<bool, Fail> {
 #[test]
 fn a_control_below_the_target_exchanges_two_vectors(rt: HostRuntime) -> Result<(), Fail> {
     assert!(rt; exchanges(rt.alloc())?);
+    Ok(())
+}
+
+#[test]
+fn a_turn_leaves_the_left_sides(rt: HostRuntime) -> Result<(), Fail> {
+    assert!(rt; turns(rt.alloc())?);
     Ok(())
 }
 

@@ -1,4 +1,4 @@
-use Rattle.std.proofs.Common.{suc, nat_eq, ◌≡◌, ◌+◌, ◌-◌, ◌<◌, length, drop, get_or, slice_get, Some, refl, sym, ap, ap₂, subst, ◌∙◌, rules, arith}
+use Rattle.std.proofs.Common.{suc, nat_eq, ◌≡◌, ◌+◌, ◌-◌, ◌*◌, ◌<◌, ◌≤◌, length, drop, get_or, slice_get, Some, refl, sym, ap, ap₂, subst, ◌∙◌, rules, arith}
 use Rattle.std.specs.List.{list_any}
 use Rattle.std.proofs.lemmas.List.{length-append}
 use Rattle.aq_store.specs.Nodes.{HasShape, pairs_at, runs_at}
@@ -15,7 +15,8 @@ use Rattle.aq_store.proofs.StopLemmas.{passed_on, adds_limit}
 use Rattle.aq_gate_ops.specs.Action.{IsActed}
 use Rattle.aq_gate_ops.specs.Accounts.{is_made, row_prices, gate_owed}
 use Rattle.aq_gate_ops.proofs.CauseLemmas.{cause_map, alone_cause, act_cause_kept, act_cause_choice, act_cause_target, act_cause_low, act_cause_high}
-use Rattle.aq_gate_ops.proofs.GateAccounts.{AreGateLevels-Extends, gate_pair, key_held, both_held, place_paid, target_paid, side_paid, gate_then, gate_nothing, place_more, target_more, side_more, place_put}
+use Rattle.aq_gate_ops.proofs.GateAccounts.{AreGateLevels-Extends, gate_pair, key_held, both_held, place_paid, target_paid, side_paid, place_more, target_more, side_more, place_put}
+use Rattle.aq_gate_ops.proofs.RowAccounts.{pays_then, pays_nothing}
 use Rattle.aq_gate_ops.proofs.StoppedLemmas.{stopped_within, stopped_memory, stopped_put, stopped_add, added_besides}
 use Rattle.aq_gate_ops.proofs.GateLemmas.{act_found, act_target, act_both, act_off, acted_none, IsActMemo-Extends, IsActMemo-put, IsRowMemo-Extends}
 use Rattle.aq_gate_ops.proofs.action.+act.Goals as goal
@@ -37,7 +38,7 @@ act_at-loop-index-init g t c = record {
   limit = refl;
   done = λ q h. h;
   rows_done = λ q h. h;
-  cost = λ levels pairs h. gate_nothing _ _ c.args.store.now c.args.steps.now;
+  cost = λ levels pairs h. pays_nothing _ _ _ c.args.store.now c.args.steps.now;
   memo = c.requires.memo;
   rows = c.requires.rows;
   count = ap length c.new-pairs.ensures ∙ sym (before-start (pairs_at c.args.store.now c.args.id));
@@ -69,14 +70,15 @@ act_at-loop-index-preserved g t c =
     let lt : c.args.depth < length c.args.shape.now = omega (arith, c.requires.deep, c.requires.valid.target) in
     let split = split_shape c.args.shape.now c.args.depth lt in
     let here : slice_get (runs_at c.args.store.now c.args.id) c.loop-index.index ≡ Some (run_of c.run-pair.result.0 c.run-pair.result.1) = ap (λ ps. slice_get (compress ps) c.loop-index.index) (sym (pairs_at-kept c.args.store.now c.loop-index.store c.loop-index.invariant.keeps (drop c.args.depth c.args.shape.now) c.args.id c.requires.shape)) ∙ c.run-pair.ensures.run in
+    let long : length c.push.new.self ≡ length c.loop-index.pairs + c.run-pair.result.1 = ap length c.in-Ok.ensures ∙ length-append c.loop-index.pairs (copies c.run-pair.result.1 c.in_ok-made.made) ∙ ap (λ y. length c.loop-index.pairs + y) (length-copies c.run-pair.result.1 c.in_ok-made.made) in
     record {
       keeps = Extends-trans _ _ _ c.loop-index.invariant.keeps c.act_pair.ensures.keeps;
       paid = c.act_pair.ensures.paid;
       limit = c.act_pair.ensures.limit ∙ c.loop-index.invariant.limit;
       done = λ q h. c.act_pair.ensures.done q (c.loop-index.invariant.done q h);
       rows_done = λ q h. c.act_pair.ensures.rows_done q (c.loop-index.invariant.rows_done q h);
-      cost = λ levels pairs h. gate_then _ _ _ _ _ _ c.args.store.now c.loop-index.store c.act_pair.new.store c.args.steps.now c.loop-index.steps c.act_pair.new.steps (c.loop-index.invariant.cost levels pairs h)
-          (c.in_ok-made.ensures.steps (rest_of levels) pairs (gate_pair c.args.store.now c.loop-index.store c.loop-index.invariant.keeps (drop c.args.depth c.args.shape.now) (drop (c.args.depth + 1) c.args.shape.now) (c.args.gate.now.target - c.args.depth) (get_or c.args.shape.now c.args.depth 0) split c.args.id c.loop-index.index c.run-pair.result.1 c.run-pair.result.0 levels pairs c.requires.shape h c.run-pair.ensures.run c.run-pair.ensures.some));
+      cost = λ levels pairs h. pays_then _ _ _ _ _ _ (2 * length c.loop-index.pairs) 2 _ c.args.store.now c.loop-index.store c.act_pair.new.store c.args.steps.now c.loop-index.steps c.act_pair.new.steps (omega (arith, long, c.run-pair.ensures.some)) (c.loop-index.invariant.cost levels pairs h)
+          (c.in_ok-made.ensures.steps (rest_of levels) pairs (gate_pair c.args.gate.now c.args.store.now c.loop-index.store c.loop-index.invariant.keeps (drop c.args.depth c.args.shape.now) (drop (c.args.depth + 1) c.args.shape.now) (c.args.gate.now.target - c.args.depth) (get_or c.args.shape.now c.args.depth 0) split c.args.id c.loop-index.index c.run-pair.result.1 c.run-pair.result.0 levels pairs c.requires.shape h c.run-pair.ensures.run c.run-pair.ensures.some));
       memo = c.in_ok-made.ensures.memo;
       rows = c.in_ok-made.ensures.rows;
       count = ap length c.in-Ok.ensures ∙ length-append c.loop-index.pairs (copies c.run-pair.result.1 c.in_ok-made.made) ∙ ap₂ (λ x y. x + y) c.loop-index.invariant.count (length-copies c.run-pair.result.1 c.in_ok-made.made)
@@ -115,10 +117,10 @@ act_at-returns-clause-rows g t c = IsRowMemo-Extends g.L.Label.parts g.L.Label.p
 
 pub act_pair-returns-then-depth-gate-clause-image : goal.act_pair-returns-then-depth-gate-clause-image
 act_pair-returns-then-depth-gate-clause-image g t c =
-    act_target g.L.Label.parts g.L.Label.part_count c.args.gate.now c.args.store.now c.mix_at.new.store c.args.shape.now c.args.depth c.args.pair (c.in_ok-first.first, c.in_ok-first.second) c.if-depth-gate.true c.requires.valid c.requires.left c.requires.right c.in_ok-first.ensures.rows.first c.in_ok-first.ensures.rows.second
+    act_target g.L.Label.parts g.L.Label.part_count c.args.gate.now c.args.store.now c.mix_sides.new.store c.args.shape.now c.args.depth c.args.pair (c.in_ok-first.first, c.in_ok-first.second) c.if-depth-gate.true c.requires.valid c.requires.left c.requires.right c.in_ok-first.ensures.rows.first c.in_ok-first.ensures.rows.second
 
 pub act_pair-returns-then-depth-gate-clause-memo : goal.act_pair-returns-then-depth-gate-clause-memo
-act_pair-returns-then-depth-gate-clause-memo g t c = IsActMemo-Extends g.L.Label.parts g.L.Label.part_count c.args.gate.now c.args.shape.now c.args.store.now c.mix_at.new.store c.mix_at.ensures.keeps (memo_at c.args.memo.now) c.requires.memo
+act_pair-returns-then-depth-gate-clause-memo g t c = IsActMemo-Extends g.L.Label.parts g.L.Label.part_count c.args.gate.now c.args.shape.now c.args.store.now c.mix_sides.new.store c.mix_sides.ensures.keeps (memo_at c.args.memo.now) c.requires.memo
 
 pub act_pair-returns-then-is_control-clause-image : goal.act_pair-returns-then-is_control-clause-image
 act_pair-returns-then-is_control-clause-image g t c =
@@ -138,18 +140,22 @@ act_pair-returns-clause-image g t c =
 
 pub act_at-returns-in-Some-clause-steps : goal.act_at-returns-in-Some-clause-steps
 act_at-returns-in-Some-clause-steps g t c =
-    λ levels pairs h. gate_nothing _ _ c.args.store.now c.args.steps.now
+    λ levels pairs h. pays_nothing _ _ _ c.args.store.now c.args.steps.now
 
 pub act_at-returns-in_err-made-clause-refused : goal.act_at-returns-in_err-made-clause-refused
 act_at-returns-in_err-made-clause-refused g t c =
     let lt : c.args.depth < length c.args.shape.now = omega (arith, c.requires.deep, c.requires.valid.target) in
     let split = split_shape c.args.shape.now c.args.depth lt in
+    let o = opened c.args.store.now (get_or c.args.shape.now c.args.depth 0) (drop (c.args.depth + 1) c.args.shape.now) c.args.id (subst (λ u. HasShape c.args.store.now u c.args.id) split c.requires.shape) in
+    let here : slice_get (runs_at c.args.store.now c.args.id) c.loop-index.index ≡ Some (run_of c.run-pair.result.0 c.run-pair.result.1) = ap (λ ps. slice_get (compress ps) c.loop-index.index) (sym (pairs_at-kept c.args.store.now c.loop-index.store c.loop-index.invariant.keeps (drop c.args.depth c.args.shape.now) c.args.id c.requires.shape)) ∙ c.run-pair.ensures.run in
+    let within = run_within (pairs_at c.args.store.now c.args.id) c.loop-index.index c.run-pair.result.1 c.run-pair.result.0 here in
+    let few : length c.loop-index.pairs + 1 ≤ get_or c.args.shape.now c.args.depth 0 = omega (arith, within, o.1, c.loop-index.invariant.count, c.run-pair.ensures.some) in
     passed_on _ c.from_residual.result c.in_err-made.field-0.0 c.from_residual.ensures
     (λ levels pairs h.
     let most = place_more (drop c.args.depth c.args.shape.now) (drop (c.args.depth + 1) c.args.shape.now) (c.args.gate.now.target - c.args.depth) (get_or c.args.shape.now c.args.depth 0) split c.args.memo.now c.args.rows.now levels pairs c.args.id h.here (ap is_some (sym c.in_default.ensures)) in
     let cost = (c.loop-index.invariant.cost levels pairs h).all in
-    stopped_within c.args.steps.now c.loop-index.steps c.act_pair.new.steps (gate_owed (c.args.gate.now.target - c.args.depth) (drop (c.args.depth + 1) c.args.shape.now) c.loop-index.memo c.loop-index.rows (rest_of levels) pairs) (gate_owed (suc (c.args.gate.now.target - c.args.depth)) (drop c.args.depth c.args.shape.now) c.args.memo.now c.args.rows.now levels pairs) _ c.loop-index.invariant.limit (omega arith)
-    (c.in_err-made.ensures.refused (rest_of levels) pairs (gate_pair c.args.store.now c.loop-index.store c.loop-index.invariant.keeps (drop c.args.depth c.args.shape.now) (drop (c.args.depth + 1) c.args.shape.now) (c.args.gate.now.target - c.args.depth) (get_or c.args.shape.now c.args.depth 0) split c.args.id c.loop-index.index c.run-pair.result.1 c.run-pair.result.0 levels pairs c.requires.shape h c.run-pair.ensures.run c.run-pair.ensures.some)))
+    stopped_within c.args.steps.now c.loop-index.steps c.act_pair.new.steps (gate_owed (c.args.gate.now.target - c.args.depth) (drop (c.args.depth + 1) c.args.shape.now) c.loop-index.memo c.loop-index.rows (rest_of levels) pairs + 2) (gate_owed (suc (c.args.gate.now.target - c.args.depth)) (drop c.args.depth c.args.shape.now) c.args.memo.now c.args.rows.now levels pairs + 0) _ c.loop-index.invariant.limit (omega (arith, few))
+    (c.in_err-made.ensures.refused (rest_of levels) pairs (gate_pair c.args.gate.now c.args.store.now c.loop-index.store c.loop-index.invariant.keeps (drop c.args.depth c.args.shape.now) (drop (c.args.depth + 1) c.args.shape.now) (c.args.gate.now.target - c.args.depth) (get_or c.args.shape.now c.args.depth 0) split c.args.id c.loop-index.index c.run-pair.result.1 c.run-pair.result.0 levels pairs c.requires.shape h c.run-pair.ensures.run c.run-pair.ensures.some)))
 
 pub act_at-returns-in_err-made-clause-cause : goal.act_at-returns-in_err-made-clause-cause
 act_at-returns-in_err-made-clause-cause g t c =
@@ -162,11 +168,15 @@ pub act_at-returns-in_default-push-clause-refused : goal.act_at-returns-in_defau
 act_at-returns-in_default-push-clause-refused g t c =
     let lt : c.args.depth < length c.args.shape.now = omega (arith, c.requires.deep, c.requires.valid.target) in
     let split = split_shape c.args.shape.now c.args.depth lt in
+    let o = opened c.args.store.now (get_or c.args.shape.now c.args.depth 0) (drop (c.args.depth + 1) c.args.shape.now) c.args.id (subst (λ u. HasShape c.args.store.now u c.args.id) split c.requires.shape) in
+    let here : slice_get (runs_at c.args.store.now c.args.id) c.loop-index.index ≡ Some (run_of c.run-pair.result.0 c.run-pair.result.1) = ap (λ ps. slice_get (compress ps) c.loop-index.index) (sym (pairs_at-kept c.args.store.now c.loop-index.store c.loop-index.invariant.keeps (drop c.args.depth c.args.shape.now) c.args.id c.requires.shape)) ∙ c.run-pair.ensures.run in
+    let within = run_within (pairs_at c.args.store.now c.args.id) c.loop-index.index c.run-pair.result.1 c.run-pair.result.0 here in
+    let few : length c.loop-index.pairs + 1 ≤ get_or c.args.shape.now c.args.depth 0 = omega (arith, within, o.1, c.loop-index.invariant.count, c.run-pair.ensures.some) in
     λ levels pairs h.
     let most = place_more (drop c.args.depth c.args.shape.now) (drop (c.args.depth + 1) c.args.shape.now) (c.args.gate.now.target - c.args.depth) (get_or c.args.shape.now c.args.depth 0) split c.args.memo.now c.args.rows.now levels pairs c.args.id h.here (ap is_some (sym c.in_default.ensures)) in
     let cost = (c.loop-index.invariant.cost levels pairs h).all in
-    let inner = (c.in_ok-made.ensures.steps (rest_of levels) pairs (gate_pair c.args.store.now c.loop-index.store c.loop-index.invariant.keeps (drop c.args.depth c.args.shape.now) (drop (c.args.depth + 1) c.args.shape.now) (c.args.gate.now.target - c.args.depth) (get_or c.args.shape.now c.args.depth 0) split c.args.id c.loop-index.index c.run-pair.result.1 c.run-pair.result.0 levels pairs c.requires.shape h c.run-pair.ensures.run c.run-pair.ensures.some)).all in
-    stopped_memory c.args.steps.now c.act_pair.new.steps (gate_owed (suc (c.args.gate.now.target - c.args.depth)) (drop c.args.depth c.args.shape.now) c.args.memo.now c.args.rows.now levels pairs) _ (omega arith) refl
+    let inner = (c.in_ok-made.ensures.steps (rest_of levels) pairs (gate_pair c.args.gate.now c.args.store.now c.loop-index.store c.loop-index.invariant.keeps (drop c.args.depth c.args.shape.now) (drop (c.args.depth + 1) c.args.shape.now) (c.args.gate.now.target - c.args.depth) (get_or c.args.shape.now c.args.depth 0) split c.args.id c.loop-index.index c.run-pair.result.1 c.run-pair.result.0 levels pairs c.requires.shape h c.run-pair.ensures.run c.run-pair.ensures.some)).all in
+    stopped_memory c.args.steps.now c.act_pair.new.steps (gate_owed (suc (c.args.gate.now.target - c.args.depth)) (drop c.args.depth c.args.shape.now) c.args.memo.now c.args.rows.now levels pairs + 0) _ (omega (arith, few)) refl
 
 pub act_at-returns-in_err-made-2-clause-refused : goal.act_at-returns-in_err-made-2-clause-refused
 act_at-returns-in_err-made-2-clause-refused g t c =
@@ -179,7 +189,7 @@ act_at-returns-in_err-made-2-clause-refused g t c =
     (λ levels pairs h.
     let most = place_more (drop c.args.depth c.args.shape.now) (drop (c.args.depth + 1) c.args.shape.now) (c.args.gate.now.target - c.args.depth) (get_or c.args.shape.now c.args.depth 0) split c.args.memo.now c.args.rows.now levels pairs c.args.id h.here (ap is_some (sym c.in_default.ensures)) in
     let cost = (c.loop-index.invariant.cost levels pairs h).all in
-    stopped_within c.args.steps.now c.loop-index.steps c.node_of.new.steps (length c.loop-index.pairs) (gate_owed (suc (c.args.gate.now.target - c.args.depth)) (drop c.args.depth c.args.shape.now) c.args.memo.now c.args.rows.now levels pairs) _ c.loop-index.invariant.limit (omega arith)
+    stopped_within c.args.steps.now c.loop-index.steps c.node_of.new.steps (length c.loop-index.pairs) (gate_owed (suc (c.args.gate.now.target - c.args.depth)) (drop c.args.depth c.args.shape.now) c.args.memo.now c.args.rows.now levels pairs + 0) _ c.loop-index.invariant.limit (omega arith)
     (stopped_add _ _ _ _ _ _ c.in_err-made-2.ensures.adds))
 
 pub act_at-returns-in_err-made-2-clause-cause : goal.act_at-returns-in_err-made-2-clause-cause
@@ -198,7 +208,7 @@ act_at-returns-in_err-put-clause-refused g t c =
     (λ levels pairs h.
     let most = place_more (drop c.args.depth c.args.shape.now) (drop (c.args.depth + 1) c.args.shape.now) (c.args.gate.now.target - c.args.depth) (get_or c.args.shape.now c.args.depth 0) split c.args.memo.now c.args.rows.now levels pairs c.args.id h.here (ap is_some (sym c.in_default.ensures)) in
     let cost = (c.loop-index.invariant.cost levels pairs h).all in
-    stopped_within c.args.steps.now c.node_of.new.steps c.put.new.steps 1 (gate_owed (suc (c.args.gate.now.target - c.args.depth)) (drop c.args.depth c.args.shape.now) c.args.memo.now c.args.rows.now levels pairs) _ (adds_limit _ _ _ _ _ _ c.node_of.ensures.adds ∙ c.loop-index.invariant.limit) (omega (arith, c.node_of.ensures.cheap))
+    stopped_within c.args.steps.now c.node_of.new.steps c.put.new.steps 1 (gate_owed (suc (c.args.gate.now.target - c.args.depth)) (drop c.args.depth c.args.shape.now) c.args.memo.now c.args.rows.now levels pairs + 0) _ (adds_limit _ _ _ _ _ _ c.node_of.ensures.adds ∙ c.loop-index.invariant.limit) (omega (arith, c.node_of.ensures.cheap))
     (stopped_put _ _ 1 _ c.put.ensures.cheap c.in_err-put.ensures.refused))
 
 pub act_at-returns-in_err-put-clause-cause : goal.act_at-returns-in_err-put-clause-cause
@@ -213,8 +223,8 @@ act_at-returns-clause-steps g t c =
     let o = opened c.args.store.now (get_or c.args.shape.now c.args.depth 0) (drop (c.args.depth + 1) c.args.shape.now) c.args.id (subst (λ u. HasShape c.args.store.now u c.args.id) split c.requires.shape) in
     let e = before-end (pairs_at c.args.store.now c.args.id) c.loop-index.index (omega (arith, c.loop-index-test.false)) in
     let long : length c.loop-index.pairs ≡ (get_or c.args.shape.now c.args.depth 0) = c.loop-index.invariant.count ∙ e ∙ o.1 in
-    λ levels pairs h. place_paid (drop c.args.depth c.args.shape.now) (drop (c.args.depth + 1) c.args.shape.now) (c.args.gate.now.target - c.args.depth) (get_or c.args.shape.now c.args.depth 0) split c.args.memo.now c.loop-index.memo c.put.new.self c.args.rows.now c.loop-index.rows c.loop-index.invariant.done c.put.ensures.done levels pairs c.args.id
-    c.args.store.now c.loop-index.store c.node_of.new.self c.args.steps.now c.loop-index.steps c.node_of.new.steps c.put.new.steps h.here (ap is_some (sym c.in_default.ensures))
+    λ levels pairs h. place_paid (drop c.args.depth c.args.shape.now) (drop (c.args.depth + 1) c.args.shape.now) (c.args.gate.now.target - c.args.depth) (get_or c.args.shape.now c.args.depth 0) split c.args.memo.now c.loop-index.memo c.put.new.self c.args.rows.now c.loop-index.rows c.loop-index.invariant.done c.put.ensures.done levels pairs c.args.id (2 * length c.loop-index.pairs)
+    c.args.store.now c.loop-index.store c.node_of.new.self c.args.steps.now c.loop-index.steps c.node_of.new.steps c.put.new.steps (omega (arith, long)) h.here (ap is_some (sym c.in_default.ensures))
     (place_put (memo_at c.loop-index.memo) (memo_at c.put.new.self) c.args.id c.in_ok-made-2.made c.in_ok-put.ensures.ok) (c.loop-index.invariant.cost levels pairs h)
     (omega (arith, c.node_of.ensures.cheap)) (added_besides _ _ _ _ _ _ c.in_ok-made-2.ensures.adds) (omega (arith, c.put.ensures.cheap))
 
@@ -223,8 +233,8 @@ act_pair-returns-in_err-first-clause-refused g t c =
     let zero : (c.args.gate.now.target - c.args.depth) ≡ 0 = omega (arith, c.if-depth-gate.true) in
     passed_on _ c.from_residual.result c.in_err-first.field-0.0 c.from_residual.ensures
     (λ levels pairs h.
-    stopped_within c.args.steps.now c.args.steps.now c.mix_at.new.steps (owed (row_prices (drop (c.args.depth + 1) c.args.shape.now)) (is_made c.args.rows.now) pairs + 0) (gate_owed (c.args.gate.now.target - c.args.depth) (drop (c.args.depth + 1) c.args.shape.now) c.args.memo.now c.args.rows.now levels pairs) _ refl (omega (arith, target_more (c.args.gate.now.target - c.args.depth) zero (drop (c.args.depth + 1) c.args.shape.now) c.args.memo.now c.args.rows.now levels pairs))
-    (c.in_err-first.ensures.refused pairs (key_held c.args.store.now (c.args.gate.now.target - c.args.depth) zero (drop (c.args.depth + 1) c.args.shape.now) c.args.pair levels pairs h)))
+    stopped_within c.args.steps.now c.args.steps.now c.mix_sides.new.steps (owed (row_prices (drop (c.args.depth + 1) c.args.shape.now)) (is_made c.args.rows.now) pairs + 2) (gate_owed (c.args.gate.now.target - c.args.depth) (drop (c.args.depth + 1) c.args.shape.now) c.args.memo.now c.args.rows.now levels pairs + 2) _ refl (omega (arith, target_more (c.args.gate.now.target - c.args.depth) zero (drop (c.args.depth + 1) c.args.shape.now) c.args.memo.now c.args.rows.now levels pairs))
+    (c.in_err-first.ensures.refused pairs (key_held c.args.gate.now c.args.store.now (c.args.gate.now.target - c.args.depth) zero (drop (c.args.depth + 1) c.args.shape.now) c.args.pair levels pairs h)))
 
 pub act_pair-returns-in_err-first-clause-cause : goal.act_pair-returns-in_err-first-clause-cause
 act_pair-returns-in_err-first-clause-cause g t c =
@@ -234,7 +244,7 @@ act_pair-returns-in_err-first-clause-cause g t c =
 pub act_pair-returns-then-depth-gate-clause-steps : goal.act_pair-returns-then-depth-gate-clause-steps
 act_pair-returns-then-depth-gate-clause-steps g t c =
     let zero : (c.args.gate.now.target - c.args.depth) ≡ 0 = omega (arith, c.if-depth-gate.true) in
-    λ levels pairs h. target_paid (c.args.gate.now.target - c.args.depth) zero (drop (c.args.depth + 1) c.args.shape.now) c.args.memo.now c.args.rows.now c.mix_at.new.memo levels pairs c.args.store.now c.mix_at.new.store c.args.steps.now c.mix_at.new.steps (c.in_ok-first.ensures.steps pairs (key_held c.args.store.now (c.args.gate.now.target - c.args.depth) zero (drop (c.args.depth + 1) c.args.shape.now) c.args.pair levels pairs h))
+    λ levels pairs h. target_paid (c.args.gate.now.target - c.args.depth) zero (drop (c.args.depth + 1) c.args.shape.now) c.args.memo.now c.args.rows.now c.mix_sides.new.memo levels pairs c.args.store.now c.mix_sides.new.store c.args.steps.now c.mix_sides.new.steps (c.in_ok-first.ensures.steps pairs (key_held c.args.gate.now c.args.store.now (c.args.gate.now.target - c.args.depth) zero (drop (c.args.depth + 1) c.args.shape.now) c.args.pair levels pairs h))
 
 pub act_pair-returns-in_err-high-clause-refused : goal.act_pair-returns-in_err-high-clause-refused
 act_pair-returns-in_err-high-clause-refused g t c =
@@ -242,8 +252,8 @@ act_pair-returns-in_err-high-clause-refused g t c =
     let above : c.args.depth < c.args.gate.now.target = omega (arith, c.requires.deep, c.if-depth-gate.false) in
     passed_on _ c.from_residual-in_err-high.result c.in_err-high.field-0.0 c.from_residual-in_err-high.ensures
     (λ levels pairs h.
-    let s = both_held c.args.store.now (c.args.gate.now.target - c.args.depth) (c.args.gate.now.target - (c.args.depth + 1)) next (drop (c.args.depth + 1) c.args.shape.now) c.args.pair levels pairs h in
-    stopped_within c.args.steps.now c.args.steps.now c.act_at.new.steps (gate_owed (suc (c.args.gate.now.target - (c.args.depth + 1))) (drop (c.args.depth + 1) c.args.shape.now) c.args.memo.now c.args.rows.now levels pairs) (gate_owed (c.args.gate.now.target - c.args.depth) (drop (c.args.depth + 1) c.args.shape.now) c.args.memo.now c.args.rows.now levels pairs) _ refl (omega (arith, side_more (c.args.gate.now.target - c.args.depth) (suc (c.args.gate.now.target - (c.args.depth + 1))) next (drop (c.args.depth + 1) c.args.shape.now) c.args.memo.now c.args.rows.now levels pairs))
+    let s = both_held c.args.gate.now c.args.store.now (c.args.gate.now.target - c.args.depth) (c.args.gate.now.target - (c.args.depth + 1)) next (drop (c.args.depth + 1) c.args.shape.now) c.args.pair levels pairs h in
+    stopped_within c.args.steps.now c.args.steps.now c.act_at.new.steps (gate_owed (suc (c.args.gate.now.target - (c.args.depth + 1))) (drop (c.args.depth + 1) c.args.shape.now) c.args.memo.now c.args.rows.now levels pairs + 0) (gate_owed (c.args.gate.now.target - c.args.depth) (drop (c.args.depth + 1) c.args.shape.now) c.args.memo.now c.args.rows.now levels pairs + 2) _ refl (omega (arith, side_more (c.args.gate.now.target - c.args.depth) (suc (c.args.gate.now.target - (c.args.depth + 1))) next (drop (c.args.depth + 1) c.args.shape.now) c.args.memo.now c.args.rows.now levels pairs))
     (c.in_err-high.ensures.refused levels pairs (record { closed = s.closed; here = s.right })))
 
 pub act_pair-returns-in_err-high-clause-cause : goal.act_pair-returns-in_err-high-clause-cause
@@ -258,7 +268,7 @@ act_pair-returns-then-is_control-clause-steps g t c =
     let next : (c.args.gate.now.target - c.args.depth) ≡ suc (c.args.gate.now.target - (c.args.depth + 1)) = omega (arith, c.requires.deep, c.if-depth-gate.false) in
     let above : c.args.depth < c.args.gate.now.target = omega (arith, c.requires.deep, c.if-depth-gate.false) in
     λ levels pairs h.
-    let s = both_held c.args.store.now (c.args.gate.now.target - c.args.depth) (c.args.gate.now.target - (c.args.depth + 1)) next (drop (c.args.depth + 1) c.args.shape.now) c.args.pair levels pairs h in
+    let s = both_held c.args.gate.now c.args.store.now (c.args.gate.now.target - c.args.depth) (c.args.gate.now.target - (c.args.depth + 1)) next (drop (c.args.depth + 1) c.args.shape.now) c.args.pair levels pairs h in
     side_paid (c.args.gate.now.target - c.args.depth) (suc (c.args.gate.now.target - (c.args.depth + 1))) next (drop (c.args.depth + 1) c.args.shape.now) c.args.memo.now c.act_at.new.memo c.args.rows.now c.act_at.new.rows levels pairs c.args.store.now c.act_at.new.store c.args.steps.now c.act_at.new.steps (c.in_ok-high.ensures.steps levels pairs (record { closed = s.closed; here = s.right }))
 
 pub act_pair-returns-in_err-low-clause-refused : goal.act_pair-returns-in_err-low-clause-refused
@@ -267,10 +277,10 @@ act_pair-returns-in_err-low-clause-refused g t c =
     let above : c.args.depth < c.args.gate.now.target = omega (arith, c.requires.deep, c.if-depth-gate.false) in
     passed_on _ c.from_residual-in_err-low.result c.in_err-low.field-0.0 c.from_residual-in_err-low.ensures
     (λ levels pairs h.
-    let s = both_held c.args.store.now (c.args.gate.now.target - c.args.depth) (c.args.gate.now.target - (c.args.depth + 1)) next (drop (c.args.depth + 1) c.args.shape.now) c.args.pair levels pairs h in
+    let s = both_held c.args.gate.now c.args.store.now (c.args.gate.now.target - c.args.depth) (c.args.gate.now.target - (c.args.depth + 1)) next (drop (c.args.depth + 1) c.args.shape.now) c.args.pair levels pairs h in
     let first = (c.in_ok-high.ensures.steps levels pairs (record { closed = s.closed; here = s.right })).all in
-    stopped_within c.args.steps.now c.act_at.new.steps c.act_at-2.new.steps (gate_owed (suc (c.args.gate.now.target - (c.args.depth + 1))) (drop (c.args.depth + 1) c.args.shape.now) c.act_at.new.memo c.act_at.new.rows levels pairs) (gate_owed (c.args.gate.now.target - c.args.depth) (drop (c.args.depth + 1) c.args.shape.now) c.args.memo.now c.args.rows.now levels pairs) _ c.act_at.ensures.limit (omega (arith, side_more (c.args.gate.now.target - c.args.depth) (suc (c.args.gate.now.target - (c.args.depth + 1))) next (drop (c.args.depth + 1) c.args.shape.now) c.args.memo.now c.args.rows.now levels pairs))
-    (c.in_err-low.ensures.refused levels pairs (record { closed = AreGateLevels-Extends c.args.store.now c.act_at.new.store c.act_at.ensures.keeps (c.args.gate.now.target - (c.args.depth + 1)) (drop (c.args.depth + 1) c.args.shape.now) levels pairs s.closed; here = s.left })))
+    stopped_within c.args.steps.now c.act_at.new.steps c.act_at-2.new.steps (gate_owed (suc (c.args.gate.now.target - (c.args.depth + 1))) (drop (c.args.depth + 1) c.args.shape.now) c.act_at.new.memo c.act_at.new.rows levels pairs + 0) (gate_owed (c.args.gate.now.target - c.args.depth) (drop (c.args.depth + 1) c.args.shape.now) c.args.memo.now c.args.rows.now levels pairs + 2) _ c.act_at.ensures.limit (omega (arith, side_more (c.args.gate.now.target - c.args.depth) (suc (c.args.gate.now.target - (c.args.depth + 1))) next (drop (c.args.depth + 1) c.args.shape.now) c.args.memo.now c.args.rows.now levels pairs))
+    (c.in_err-low.ensures.refused levels pairs (record { closed = AreGateLevels-Extends c.args.gate.now c.args.store.now c.act_at.new.store c.act_at.ensures.keeps (c.args.gate.now.target - (c.args.depth + 1)) (drop (c.args.depth + 1) c.args.shape.now) levels pairs s.closed; here = s.left })))
 
 pub act_pair-returns-in_err-low-clause-cause : goal.act_pair-returns-in_err-low-clause-cause
 act_pair-returns-in_err-low-clause-cause g t c =
@@ -285,6 +295,6 @@ act_pair-returns-clause-steps g t c =
     let next : (c.args.gate.now.target - c.args.depth) ≡ suc (c.args.gate.now.target - (c.args.depth + 1)) = omega (arith, c.requires.deep, c.if-depth-gate.false) in
     let above : c.args.depth < c.args.gate.now.target = omega (arith, c.requires.deep, c.if-depth-gate.false) in
     λ levels pairs h.
-    let s = both_held c.args.store.now (c.args.gate.now.target - c.args.depth) (c.args.gate.now.target - (c.args.depth + 1)) next (drop (c.args.depth + 1) c.args.shape.now) c.args.pair levels pairs h in
+    let s = both_held c.args.gate.now c.args.store.now (c.args.gate.now.target - c.args.depth) (c.args.gate.now.target - (c.args.depth + 1)) next (drop (c.args.depth + 1) c.args.shape.now) c.args.pair levels pairs h in
     side_paid (c.args.gate.now.target - c.args.depth) (suc (c.args.gate.now.target - (c.args.depth + 1))) next (drop (c.args.depth + 1) c.args.shape.now) c.args.memo.now c.act_at-2.new.memo c.args.rows.now c.act_at-2.new.rows levels pairs c.args.store.now c.act_at-2.new.store c.args.steps.now c.act_at-2.new.steps
-    (gate_then _ _ _ _ _ _ c.args.store.now c.act_at.new.store c.act_at-2.new.store c.args.steps.now c.act_at.new.steps c.act_at-2.new.steps (c.in_ok-high.ensures.steps levels pairs (record { closed = s.closed; here = s.right })) (c.in_ok-low.ensures.steps levels pairs (record { closed = AreGateLevels-Extends c.args.store.now c.act_at.new.store c.act_at.ensures.keeps (c.args.gate.now.target - (c.args.depth + 1)) (drop (c.args.depth + 1) c.args.shape.now) levels pairs s.closed; here = s.left })))
+    (pays_then _ _ _ _ _ _ 0 0 0 c.args.store.now c.act_at.new.store c.act_at-2.new.store c.args.steps.now c.act_at.new.steps c.act_at-2.new.steps (omega arith) (c.in_ok-high.ensures.steps levels pairs (record { closed = s.closed; here = s.right })) (c.in_ok-low.ensures.steps levels pairs (record { closed = AreGateLevels-Extends c.args.gate.now c.args.store.now c.act_at.new.store c.act_at.ensures.keeps (c.args.gate.now.target - (c.args.depth + 1)) (drop (c.args.depth + 1) c.args.shape.now) levels pairs s.closed; here = s.left })))

@@ -56,7 +56,7 @@ returns-clause-steps g c =
     let s = subst (λ s. HasShape c.args.store.now s c.args.lsta.now.root) (sym is) c.requires.fits in
     let valid = subst (λ s. IsValidGate (length s) c.args.gate.now) (sym is) c.requires.valid in
     let lt : c.args.gate.now.target - 0 < length c.as_slice-shape.result.now = omega (arith, valid.target) in
-    let r = gate_root c.args.store.now (is_done (memo_at c.args.acting.now.nodes)) (is_made c.args.acting.now.pairs)
+    let r = gate_root c.args.gate.now c.args.store.now (is_done (memo_at c.args.acting.now.nodes)) (is_made c.args.acting.now.pairs)
     (c.args.gate.now.target - 0) c.as_slice-shape.result.now c.args.lsta.now.shape.items c.args.lsta.now.root is lt (positive c.args.store.now c.as_slice-shape.result.now c.args.lsta.now.root s) s in
     omega (arith, (c.in_ok-root.ensures.steps r.0 r.1 r.2).all, r.3)
 
@@ -66,7 +66,7 @@ returns-in_default-clause-steps g c =
     let s = subst (λ s. HasShape c.args.store.now s c.args.lsta.now.root) (sym is) c.requires.fits in
     let valid = subst (λ s. IsValidGate (length s) c.args.gate.now) (sym is) c.requires.valid in
     let lt : c.args.gate.now.target - 0 < length c.as_slice-shape.result.now = omega (arith, valid.target) in
-    let r = gate_root c.args.store.now (is_done (memo_at c.args.acting.now.nodes)) (is_made c.args.acting.now.pairs)
+    let r = gate_root c.args.gate.now c.args.store.now (is_done (memo_at c.args.acting.now.nodes)) (is_made c.args.acting.now.pairs)
     (c.args.gate.now.target - 0) c.as_slice-shape.result.now c.args.lsta.now.shape.items c.args.lsta.now.root is lt (positive c.args.store.now c.as_slice-shape.result.now c.args.lsta.now.root s) s in
     omega (arith, (c.in_ok-root.ensures.steps r.0 r.1 r.2).all, r.3)
 
@@ -76,7 +76,7 @@ returns-in_err-root-clause-steps g c =
     let s = subst (λ s. HasShape c.args.store.now s c.args.lsta.now.root) (sym is) c.requires.fits in
     let valid = subst (λ s. IsValidGate (length s) c.args.gate.now) (sym is) c.requires.valid in
     let lt : c.args.gate.now.target - 0 < length c.as_slice-shape.result.now = omega (arith, valid.target) in
-    let r = gate_root c.args.store.now (is_done (memo_at c.args.acting.now.nodes)) (is_made c.args.acting.now.pairs)
+    let r = gate_root c.args.gate.now c.args.store.now (is_done (memo_at c.args.acting.now.nodes)) (is_made c.args.acting.now.pairs)
     (c.args.gate.now.target - 0) c.as_slice-shape.result.now c.args.lsta.now.shape.items c.args.lsta.now.root is lt (positive c.args.store.now c.as_slice-shape.result.now c.args.lsta.now.root s) s in
     omega (arith, (c.in_err-root.ensures.refused r.0 r.1 r.2).cheap, r.3)
 
@@ -86,10 +86,10 @@ returns-in_err-root-clause-refused g c =
     let s = subst (λ s. HasShape c.args.store.now s c.args.lsta.now.root) (sym is) c.requires.fits in
     let valid = subst (λ s. IsValidGate (length s) c.args.gate.now) (sym is) c.requires.valid in
     let lt : c.args.gate.now.target - 0 < length c.as_slice-shape.result.now = omega (arith, valid.target) in
-    let r = gate_root c.args.store.now (is_done (memo_at c.args.acting.now.nodes)) (is_made c.args.acting.now.pairs)
+    let r = gate_root c.args.gate.now c.args.store.now (is_done (memo_at c.args.acting.now.nodes)) (is_made c.args.acting.now.pairs)
     (c.args.gate.now.target - 0) c.as_slice-shape.result.now c.args.lsta.now.shape.items c.args.lsta.now.root is lt (positive c.args.store.now c.as_slice-shape.result.now c.args.lsta.now.root s) s in
     passed_on _ c.from_residual.result c.in_err-root.field-0.0 c.from_residual.ensures
-    (stopped_within c.args.steps.now c.args.steps.now c.act_at.new.steps (gate_owed (suc (c.args.gate.now.target - 0)) c.as_slice-shape.result.now c.args.acting.now.nodes c.args.acting.now.pairs r.0 r.1) (2 * words c.args.lsta.now.shape.items * 2 ^ (length c.args.lsta.now.shape.items + 1)) _ refl (omega (arith, r.3)) (c.in_err-root.ensures.refused r.0 r.1 r.2))
+    (stopped_within c.args.steps.now c.args.steps.now c.act_at.new.steps (gate_owed (suc (c.args.gate.now.target - 0)) c.as_slice-shape.result.now c.args.acting.now.nodes c.args.acting.now.pairs r.0 r.1 + 0) (2 * words c.args.lsta.now.shape.items * 2 ^ (length c.args.lsta.now.shape.items + 1)) _ refl (omega (arith, r.3)) (c.in_err-root.ensures.refused r.0 r.1 r.2))
 
 pub returns-in_default-clause-refused : goal.returns-in_default-clause-refused
 returns-in_default-clause-refused g c =
@@ -97,7 +97,7 @@ returns-in_default-clause-refused g c =
     let s = subst (λ s. HasShape c.args.store.now s c.args.lsta.now.root) (sym is) c.requires.fits in
     let valid = subst (λ s. IsValidGate (length s) c.args.gate.now) (sym is) c.requires.valid in
     let lt : c.args.gate.now.target - 0 < length c.as_slice-shape.result.now = omega (arith, valid.target) in
-    let r = gate_root c.args.store.now (is_done (memo_at c.args.acting.now.nodes)) (is_made c.args.acting.now.pairs)
+    let r = gate_root c.args.gate.now c.args.store.now (is_done (memo_at c.args.acting.now.nodes)) (is_made c.args.acting.now.pairs)
     (c.args.gate.now.target - 0) c.as_slice-shape.result.now c.args.lsta.now.shape.items c.args.lsta.now.root is lt (positive c.args.store.now c.as_slice-shape.result.now c.args.lsta.now.root s) s in
     stopped_memory c.args.steps.now c.act_at.new.steps (2 * words c.args.lsta.now.shape.items * 2 ^ (length c.args.lsta.now.shape.items + 1)) _ (omega (arith, (c.in_ok-root.ensures.steps r.0 r.1 r.2).all, r.3)) refl
 
@@ -110,7 +110,7 @@ pub returns-clause-besides : goal.returns-clause-besides
 returns-clause-besides g c =
     let is = c.as_slice-shape.ensures.value in
     let s = subst (λ s. HasShape c.args.store.now s c.args.lsta.now.root) (sym is) c.requires.fits in
-    let r = gate_counted c.args.store.now (is_done (memo_at c.args.acting.now.nodes)) (is_made c.args.acting.now.pairs)
+    let r = gate_counted c.args.gate.now c.args.store.now (is_done (memo_at c.args.acting.now.nodes)) (is_made c.args.acting.now.pairs)
     (c.args.gate.now.target - 0) c.as_slice-shape.result.now c.args.lsta.now is s in
     omega (arith, (c.in_ok-root.ensures.steps r.0 r.1 r.2).besides, r.3)
 
