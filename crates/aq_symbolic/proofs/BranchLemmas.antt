@@ -6,6 +6,8 @@ use Rattle.aq_ring.specs.Fractions.{Amplitude}
 use Rattle.aq_prog.specs.declared.stmt.Guard.{Guard}
 use Rattle.aq_prog.specs.declared.stmt.Stmt.{Stmt}
 use Rattle.aq_store.specs.Count.{Count}
+use Rattle.aq_store.specs.Nodes.{FitsStore}
+use Rattle.aq_store.specs.Stops.{GivesUp}
 use Rattle.aq_store.specs.declared.node.Node.{Node}
 use Rattle.aq_store.specs.declared.store.Stop.{Stop}
 use Rattle.aq_obligations.specs.Enough.{guards, outcomes, statements}
@@ -22,8 +24,8 @@ use Rattle.aq_symbolic.proofs.CollectLemmas.{from_then}
 use Rattle.aq_symbolic.proofs.Elements.{all_left, all_right}
 use Rattle.aq_symbolic.proofs.MoveLemmas.{of_if}
 use Rattle.aq_symbolic.proofs.SplitLemmas.{split_from, split_lighter, split_seen, split_sized}
-use Rattle.aq_symbolic.proofs.StopLemmas.{cause_map, stopped_within}
-use Rattle.aq_symbolic.proofs.WeightLemmas.{spent_le, weights_le}
+use Rattle.aq_symbolic.proofs.StopLemmas.{alone_cause, cause_map, stopped_alone, stopped_within}
+use Rattle.aq_symbolic.proofs.WeightLemmas.{price_some, price_within, spent_le, spent_split, weights_le, weights_one}
 
 -- a smaller bound within a larger one
 most_le : (c s t v w : ℕ) → s ≤ t → v ≤ w → c + 4 * (s * v) ≤ c + 4 * (t * w)
@@ -114,9 +116,20 @@ module _ {L : Type 0} (parts : L → List Amplitude) (count : ℕ) where
       → flat_map f (map (world_of parts v table) halves) ≡ flat_map (λ z. flat_map f (meant.split bit z)) (map (world_of parts v table) (w ∷ []))
   if_seen f v table bit w halves h = ap (flat_map f) (split_seen parts v table bit w halves h) ∙ sym (append-nil (flat_map f (meant.split bit (world_of parts v table w))))
 
-  pub if_leaves : (g : Guard) (x y : List Stmt) (s0 s1 : List (Node L)) (c0 c1 : Count) (w : World) (halves list : List World) → IsSplit g.bit w halves
-      → Leaves parts count (of_branch g x y) s0 s1 c0 c1 halves list → Leaves parts count (of_if g x y) s0 s1 c0 c1 (w ∷ []) list
-  if_leaves g x y s0 s1 c0 c1 w halves list split p = record {
+  -- a world weighs a step at least
+  weighs : (named : ℕ → Bool) (k : ℕ) (table : List (Node L)) (w : World) → FitsStore table w.lsta → 1 ≤ weights named k (w ∷ [])
+  weighs named k table w fits = (let a = price_some table w.lsta fits in let b = price_within named k w in let e = weights_one named k w in omega (arith, a, b, e))
+
+  -- the step of a split, and the steps of the branches
+  if_steps : (g : Guard) (x y : List Stmt) (s0 : List (Node L)) (c0 cp : Count) (w : World) (halves : List World) (named : ℕ → Bool) → FitsStore s0 w.lsta → IsSplit g.bit w halves → cp.taken ≤ c0.taken + 1
+      → AreNamed named (of_if g x y).guards → cp.taken + most_steps named (of_branch g x y) halves ≤ c0.taken + most_steps named (of_if g x y) (w ∷ [])
+  if_steps g x y s0 c0 cp w halves named fits split paid h =
+      spent_split c0.taken cp.taken (statements x + statements y) (weights named (outcomes x + outcomes y) halves) (weights named (outcomes x + outcomes y) (w ∷ [])) paid (weighs named (outcomes x + outcomes y) s0 w fits)
+      (split_lighter named (outcomes x + outcomes y) g.bit w halves (All-head (λ (q : Guard). named q.bit ≡ true) g (guards x ++ guards y) h) split)
+
+  pub if_leaves : (g : Guard) (x y : List Stmt) (s0 s1 : List (Node L)) (c0 cp c1 : Count) (w : World) (halves list : List World) → FitsStore s0 w.lsta → IsSplit g.bit w halves → cp.taken ≤ c0.taken + 1
+      → Leaves parts count (of_branch g x y) s0 s1 cp c1 halves list → Leaves parts count (of_if g x y) s0 s1 c0 c1 (w ∷ []) list
+  if_leaves g x y s0 s1 c0 cp c1 w halves list fits split paid p = record {
     gives = λ n m v proper s.
         let here = All-head (IsSized n m s0) w [] s in
         let a = p.gives n m v proper (split_sized n m s0 g.bit w halves split here) in
@@ -130,18 +143,16 @@ module _ {L : Type 0} (parts : L → List Amplitude) (count : ℕ) where
         let b = split_lighter named ((outcomes x + outcomes y) + k) g.bit w halves (All-head (λ (q : Guard). named q.bit ≡ true) g (guards x ++ guards y) h) split in
         omega (arith, a, b);
     takes = λ named h.
-        spent_le c0.taken c1.taken (statements x + statements y) (1 + (statements x + statements y)) (weights named (outcomes x + outcomes y) halves) (weights named (outcomes x + outcomes y) (w ∷ []))
-        (omega arith) (split_lighter named (outcomes x + outcomes y) g.bit w halves (All-head (λ (q : Guard). named q.bit ≡ true) g (guards x ++ guards y) h) split)
-        (p.takes named (All-tail (λ (q : Guard). named q.bit ≡ true) g (guards x ++ guards y) h));
+        let a = p.takes named (All-tail (λ (q : Guard). named q.bit ≡ true) g (guards x ++ guards y) h) in
+        let b = if_steps g x y s0 c0 cp w halves named fits split paid h in
+        omega (arith, a, b);
   }
 
-  pub if_stops : (g : Guard) (x y : List Stmt) (s0 : List (Node L)) (c0 c1 : Count) (w : World) (halves : List World) (why : Stop L) → IsSplit g.bit w halves
-      → Stops parts count (of_branch g x y) s0 halves c0 c1 why → Stops parts count (of_if g x y) s0 (w ∷ []) c0 c1 why
-  if_stops g x y s0 c0 c1 w halves why split p = record {
+  pub if_stops : (g : Guard) (x y : List Stmt) (s0 : List (Node L)) (c0 cp c1 : Count) (w : World) (halves : List World) (why : Stop L) → FitsStore s0 w.lsta → IsSplit g.bit w halves → cp.taken ≤ c0.taken + 1 → cp.limit ≡ c0.limit
+      → Stops parts count (of_branch g x y) s0 halves cp c1 why → Stops parts count (of_if g x y) s0 (w ∷ []) c0 c1 why
+  if_stops g x y s0 c0 cp c1 w halves why fits split paid limit p = record {
     stopped = λ named h.
-        stopped_within c0 c0 c1 (most_steps named (of_branch g x y) halves) (most_steps named (of_if g x y) (w ∷ [])) why refl
-        (most_le c0.taken (statements x + statements y) (1 + (statements x + statements y)) (weights named (outcomes x + outcomes y) halves) (weights named (outcomes x + outcomes y) (w ∷ []))
-        (omega arith) (split_lighter named (outcomes x + outcomes y) g.bit w halves (All-head (λ (q : Guard). named q.bit ≡ true) g (guards x ++ guards y) h) split))
+        stopped_within c0 cp c1 (most_steps named (of_branch g x y) halves) (most_steps named (of_if g x y) (w ∷ [])) why limit (if_steps g x y s0 c0 cp w halves named fits split paid h)
         (p.stopped named (All-tail (λ (q : Guard). named q.bit ≡ true) g (guards x ++ guards y) h));
     cause = cause_map (λ l r. IsUnfit parts count (of_branch g x y) s0 halves) (λ l r. IsUnfit parts count (of_if g x y) s0 (w ∷ []))
         (λ l r u. record {
@@ -150,6 +161,17 @@ module _ {L : Type 0} (parts : L → List Amplitude) (count : ℕ) where
               let here = All-head (IsSized n m s0) w [] s in
               subst (MeetsUnfit n) (if_seen ((of_branch g x y).meets n) (one_word count cases u.word) s0 g.bit w halves split) (u.wide n m cases (split_sized n m s0 g.bit w halves split here));
         }) why p.cause;
+  }
+
+  -- the step is missing, or memory
+  pub if_unpaid : (g : Guard) (x y : List Stmt) (s0 : List (Node L)) (c0 c1 : Count) (w : World) (why : Stop L) → FitsStore s0 w.lsta → c1.taken ≤ c0.taken + 1 → GivesUp 1 c0 c1 why
+      → Stops parts count (of_if g x y) s0 (w ∷ []) c0 c1 why
+  if_unpaid g x y s0 c0 c1 w why fits le gives = record {
+    stopped = λ named h.
+        let some = weighs named (outcomes x + outcomes y) s0 w fits in
+        let room = spent_split c0.taken (c0.taken + 1) (statements x + statements y) 0 (weights named (outcomes x + outcomes y) (w ∷ [])) (omega arith) some (omega arith) in
+        stopped_within c0 c0 c1 1 (most_steps named (of_if g x y) (w ∷ [])) why refl (omega (arith, room)) (stopped_alone c0 c1 1 why le gives);
+    cause = alone_cause (λ l r. IsUnfit parts count (of_if g x y) s0 (w ∷ [])) why gives.alone;
   }
 
   -- a move under another name

@@ -10,6 +10,7 @@ use Rattle.aq_prog.proofs.DigitLaws.{get_or-tabulate, length-tabulate}
 use Rattle.aq_store.specs.Count.{Count}
 use Rattle.aq_store.specs.Nodes.{Extends, FitsStore, vector_of}
 use Rattle.aq_store.specs.Parts.{part_vector}
+use Rattle.aq_store.specs.Stops.{GivesUp}
 use Rattle.aq_store.specs.declared.node.Node.{Node}
 use Rattle.aq_store.specs.declared.store.Stop.{Stop}
 use Rattle.aq_store.proofs.TableLemmas.{HasShape-Extends}
@@ -27,8 +28,8 @@ use Rattle.aq_symbolic.specs.Worlds.{AllFitStore, AreSized, ComesFrom, IsSized, 
 use Rattle.aq_symbolic.specs.declared.kept.World.{World}
 use Rattle.aq_symbolic.proofs.Elements.{first_in, one_is}
 use Rattle.aq_symbolic.proofs.SplitLemmas.{from_one, from_self}
-use Rattle.aq_symbolic.proofs.StopLemmas.{cause_map, stopped_within}
-use Rattle.aq_symbolic.proofs.WeightLemmas.{open-stored-le, price_within, weight_le, weight_suc, weights_one, weights_two}
+use Rattle.aq_symbolic.proofs.StopLemmas.{alone_cause, cause_map, stopped_alone, stopped_within}
+use Rattle.aq_symbolic.proofs.WeightLemmas.{open-stored-le, price_some, price_within, weight_le, weight_suc, weights_one, weights_two}
 use Rattle.aq_symbolic.proofs.WorldLemmas.{sized_kept, sized_mapped, world_kept, world_mapped}
 
 unmap : {A B : Type 0} (P : B → Type 0) (f : A → B) (xs : List A) → All P (map f xs) → All (λ x. P (f x)) xs
@@ -210,6 +211,12 @@ module _ {L : Type 0} (parts : L → List Amplitude) (count : ℕ) (S T : ℕ �
     stopped = λ named h. (let a = price_eight named w in stopped_within c0 c1 c2 bound (most_steps named (of_halves S T) (w ∷ [])) why limit (omega (arith, le, a)) stopped);
     cause = cause_map (λ l r. ⊥) (λ l r. IsUnfit parts count (of_halves S T) s0 (w ∷ [])) (λ l r u. absurd u) why cause;
   }
+
+  -- the two steps are missing
+  pub halves_unpaid : (s0 : List (Node L)) (c0 c1 : Count) (w : World) (why : Stop L) → FitsStore s0 w.lsta → c1.taken ≤ c0.taken + 2 → GivesUp 2 c0 c1 why → Stops parts count (of_halves S T) s0 (w ∷ []) c0 c1 why
+  halves_unpaid s0 c0 c1 w why fits le gives =
+      let some = price_some s0 w.lsta fits in
+      halves_stop s0 c0 c0 c1 2 w why refl (omega (arith, some)) (stopped_alone c0 c1 2 why le gives) (alone_cause (λ l r. ⊥) why gives.alone)
 
 -- two worlds fit
 pub two_fit : {L : Type 0} (s1 s2 : List (Node L)) (z o : World) (both : List World) → both ≡ z ∷ o ∷ [] → Extends s1 s2 → FitsStore s1 z.lsta → FitsStore s2 o.lsta → AllFitStore s2 both

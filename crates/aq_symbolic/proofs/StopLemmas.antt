@@ -39,5 +39,9 @@ module _ {L : Type 0} where
   pub keeps_none : (table : List (Node L)) (c : Count) → total_cost table ≤ c.taken → Keeps table table c c
   keeps_none table c paid = record { table = Extends-refl table; paid = paid; limit = refl }
 
+  -- the counter alone goes on
+  pub keeps_paid : (table : List (Node L)) (c0 c1 : Count) → total_cost table ≤ c0.taken → c0.taken ≤ c1.taken → c1.limit ≡ c0.limit → Keeps table table c0 c1
+  keeps_paid table c0 c1 paid later limit = record { table = Extends-refl table; paid = omega (arith, paid, later); limit = limit }
+
   pub keeps_then : (s0 s1 s2 : List (Node L)) (c0 c1 c2 : Count) → Keeps s0 s1 c0 c1 → Keeps s1 s2 c1 c2 → Keeps s0 s2 c0 c2
   keeps_then s0 s1 s2 c0 c1 c2 a b = record { table = Extends-trans s0 s1 s2 a.table b.table; paid = b.paid; limit = b.limit ∙ a.limit }

@@ -5,6 +5,12 @@ use Rattle.std.proofs.Math.Pow.{pow_mono}
 use Rattle.std.proofs.Math.Nat.{mul-le-mul_left}
 use Rattle.std.proofs.lemmas.Nat.{pow_pos}
 use Rattle.std.proofs.lemmas.List.Sums.{sum_by-cons, sum_by-append}
+use Rattle.aq_store.specs.Nodes.{FitsStore, HasShape, pairs_at}
+use Rattle.aq_store.specs.declared.lsta.Lsta.{Lsta}
+use Rattle.aq_store.specs.declared.node.Node.{Node}
+use Rattle.aq_store.proofs.MeansLemmas.{opened}
+use Rattle.aq_store.proofs.TableLemmas.{slice_get-some}
+use Rattle.aq_measure_ops.proofs.BudgetLemmas.{IsSome, all_steps}
 use Rattle.aq_obligations.specs.Worlds.{Partial, stored}
 use Rattle.aq_symbolic.specs.Steps.{is_unknown}
 use Rattle.aq_symbolic.specs.Weights.{open_bits, open_from, open_one, price, weight, weights}
@@ -42,6 +48,19 @@ open-set named k j (x ∷ bits) zero b e u h =
 open-set named k j (x ∷ bits) (suc i) b e u h = let rest = open-set named (suc k) j bits i b (omega (arith, e)) u h in omega (arith, rest)
 
 -- ---- a world
+
+module _ {L : Type 0} where
+  some_choices : (table : List (Node L)) (shape : List ℕ) (id : ℕ) → HasShape table shape id → IsSome shape
+  some_choices table [] id s k lt = absurd (omega (arith, lt))
+  some_choices table (n ∷ shape) id s zero lt = (opened table n shape id s).2
+  some_choices table (n ∷ shape) id s (suc k) lt =
+      let o = opened table n shape id s in
+      let first = slice_get-some (pairs_at table id) 0 (omega (arith, o.1, o.2)) in
+      some_choices table shape first.0.0 (o.3.left 0 first.0 first.1) k (omega (arith, lt))
+
+  -- an automaton has a word, so a world has a price
+  pub price_some : (table : List (Node L)) (lsta : Lsta) → FitsStore table lsta → 1 ≤ price lsta.shape.items
+  price_some table lsta fits = let shape = lsta.shape.items in let a = all_steps shape (some_choices table shape lsta.root fits) in omega (arith, a)
 
 pub price_within : (named : ℕ → Bool) (k : ℕ) (w : World) → price w.lsta.shape.items ≤ weight named k w
 price_within named k w =
@@ -98,6 +117,13 @@ spent_on c0 c1 c2 s t w x v b p q now before = omega (arith, mul-le-mul_left s p
 -- a world more
 pub spent_more : (c0 c1 c2 s v w z : ℕ) → v + w ≤ z → c1 ≤ c0 + 4 * (s * v) → c2 ≤ c1 + 4 * (s * w) → c2 ≤ c0 + 4 * (s * z)
 spent_more c0 c1 c2 s v w z le a b = omega (arith, mul-le-mul_left s le)
+
+-- a step, and then a part of what is left by a statement
+pub spent_split : (c0 cp s v w : ℕ) → cp ≤ c0 + 1 → 1 ≤ w → v ≤ w → cp + 4 * (s * v) ≤ c0 + 4 * ((1 + s) * w)
+spent_split c0 cp s v w p some q =
+    let a = mul-le-mul_left s q in
+    let b : (1 + s) * w ≡ w + s * w = omega arith in
+    omega (arith, p, some, a, b)
 
 -- a larger bound
 pub spent_le : (c0 c1 s t v w : ℕ) → s ≤ t → v ≤ w → c1 ≤ c0 + 4 * (s * v) → c1 ≤ c0 + 4 * (t * w)

@@ -1,5 +1,5 @@
 //! A world, and its steps.
-ghost use Rattle.std.specs.Prelude.{◌≡◌, ◌<◌, ◌≤◌, ◌+◌, ◌*◌, ◌++◌, [], ◌∷◌, Some, IfOk, IfErr, IfSome, OnOk};
+ghost use Rattle.std.specs.Prelude.{◌≡◌, ◌<◌, ◌≤◌, ◌+◌, ◌*◌, ◌++◌, true, [], ◌∷◌, Some, IfOk, IfErr, IfSome, OnOk};
 ghost use Rattle.std.specs.Prelude.{length, slice_get, slice_set};
 ghost use Rattle.aq_prog.specs.Gates.{apply_gate, flip_gate, project, IsValidGate};
 ghost use Rattle.aq_prog.specs.Runs.{flipped};
@@ -47,35 +47,31 @@ fn copy_of(alloc: Global, lsta: &Lsta) -> Result<Lsta, AllocError>
     })
 }
 
-/// Makes the qubit's digit 0 where it is 1 in all that isn't zero, as after the outcome 1. The flip always fits.
+/// Makes the qubit's digit 0, where it is 1 in all that isn't zero. The flip always fits.
 fn clear<L: Label>(
     alloc: Global,
     store: &mut Store<L>,
     flip: &mut Acting,
-    lsta: Lsta,
+    lsta: &Lsta,
     qubit: u32,
-    outcome: bool,
     steps: &mut Steps,
 ) -> Result<Lsta, Stop<L>>
-    requires fits { FitsStore store.old lsta }
-    requires qubit { qubit < length lsta.shape.items }
-    requires memo { let levels = length lsta.shape.items in
+    requires fits { FitsStore store.old lsta.now }
+    requires qubit { qubit < length lsta.now.shape.items }
+    requires memo { let levels = length lsta.now.shape.items in
         IsActing L.parts L.part_count (flip_gate qubit) levels store.old flip.old }
     requires paid { total_cost store.old ≤ steps.old.taken }
-    ensures cleared { let flip = flipped (length lsta.shape.items) qubit outcome in
-        IfOk result (IsMapped L.parts L.part_count flip store.old store.new lsta) }
-    ensures memo { let levels = length lsta.shape.items in
+    ensures cleared { let flip = flipped (length lsta.now.shape.items) qubit true in
+        IfOk result (IsMapped L.parts L.part_count flip store.old store.new lsta.now) }
+    ensures memo { let levels = length lsta.now.shape.items in
         OnOk result (IsActing L.parts L.part_count (flip_gate qubit) levels store.new flip.new) }
     ensures keeps { Keeps store.old store.new steps.old steps.new }
-    ensures steps { steps.new.taken ≤ steps.old.taken + 2 * price lsta.shape.items }
-    ensures refused { IfErr result (IsStopped (2 * price lsta.shape.items) steps.old steps.new) }
+    ensures steps { steps.new.taken ≤ steps.old.taken + 2 * price lsta.now.shape.items }
+    ensures refused { IfErr result (IsStopped (2 * price lsta.now.shape.items) steps.old steps.new) }
     ensures narrow { IfErr result (IsCause (λ l r. ⊥)) }
 {
-    if !outcome {
-        return Ok(lsta);
-    }
     let gate = Gate::new(Items::new(alloc), qubit, FLIP);
-    let made = apply_with(alloc, store, flip, &lsta, &gate, steps)?;
+    let made = apply_with(alloc, store, flip, lsta, &gate, steps)?;
     Ok(made)
 }
 
@@ -246,7 +242,7 @@ impl World {
         Ok(world)
     }
 
-    /// The world after an outcome of a reset of the qubit. `Spent`: four times the words times `2^(n+1)` are more
+    /// The world after the outcome 1 of a reset of the qubit. `Spent`: four times the words times `2^(n+1)` are more
     /// steps than were left. It is never `Wide`.
     pub fn reset<L: Label>(
         &self,
@@ -255,22 +251,21 @@ impl World {
         projecting: &mut Projecting,
         flip: &mut Acting,
         qubit: u32,
-        outcome: bool,
         steps: &mut Steps,
     ) -> Result<World, Stop<L>>
         requires fits { FitsStore store.old self.now.lsta }
         requires qubit { qubit < length self.now.lsta.shape.items }
         requires memo { let levels = length self.now.lsta.shape.items in
-            IsProjecting L.parts qubit outcome levels store.old projecting.old }
+            IsProjecting L.parts qubit true levels store.old projecting.old }
         requires flip { let levels = length self.now.lsta.shape.items in
             IsActing L.parts L.part_count (flip_gate qubit) levels store.old flip.old }
         requires paid { total_cost store.old ≤ steps.old.taken }
-        ensures fields { let outcomes = self.now.outcomes ++ outcome ∷ [] in
+        ensures fields { let outcomes = self.now.outcomes ++ true ∷ [] in
             IfOk result (HasFields self.now self.now.start self.now.bits outcomes) }
-        ensures set { let left = cleared (length self.now.lsta.shape.items) qubit outcome in
+        ensures set { let left = cleared (length self.now.lsta.shape.items) qubit true in
             IfOk result (λ w. IsMapped L.parts L.part_count left store.old store.new self.now.lsta w.lsta) }
         ensures memo { let levels = length self.now.lsta.shape.items in
-            OnOk result (IsProjecting L.parts qubit outcome levels store.new projecting.new) }
+            OnOk result (IsProjecting L.parts qubit true levels store.new projecting.new) }
         ensures flip { let levels = length self.now.lsta.shape.items in
             OnOk result (IsActing L.parts L.part_count (flip_gate qubit) levels store.new flip.new) }
         ensures keeps { Keeps store.old store.new steps.old steps.new }
@@ -278,9 +273,9 @@ impl World {
         ensures refused { IfErr result (IsStopped (4 * price self.now.lsta.shape.items) steps.old steps.new) }
         ensures narrow { IfErr result (IsCause (λ l r. ⊥)) }
     {
-        let half = project_with(alloc, store, projecting, &self.lsta, qubit, outcome, steps)?;
-        let lsta = clear(alloc, store, flip, half, qubit, outcome, steps)?;
-        let Ok(world) = self.after(alloc, None, outcome, lsta) else {
+        let half = project_with(alloc, store, projecting, &self.lsta, qubit, true, steps)?;
+        let lsta = clear(alloc, store, flip, &half, qubit, steps)?;
+        let Ok(world) = self.after(alloc, None, true, lsta) else {
             return Err(Stop::Memory);
         };
         Ok(world)

@@ -18,4 +18,4 @@ mod tests;
 pub use fragment::{go, split};
 pub use kept::World;
 pub use memos::Memos;
-pub use several::{alive, measure, play_gate, reset};
+pub use several::{alive, measure, pay, play_gate, reset};

@@ -27,8 +27,9 @@ fn has_state_at<L: Label>(store: &Store<L>, shape: &[u32], depth: usize, id: Id)
     false
 }
 
-/// The same of two nodes. The second is looked at only where it is another one. All zero nodes of a depth are one
-/// node, so few of them are met before one that isn't zero.
+/// The same of two nodes. The second is looked at only where it is another one. Where one label alone is zero, all zero
+/// nodes of a depth are one node, whose one run has it twice below. So at most two of them are walked through at each
+/// depth before a node that isn't zero, and the whole walk needs no memo: it is at most quadratic in the depth.
 #[cycle(nonzero)]
 fn has_either<L: Label>(store: &Store<L>, shape: &[u32], depth: usize, left: Id, right: Id) -> bool
     requires left { HasShape store.now (drop depth shape.now) left }

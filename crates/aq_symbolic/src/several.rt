@@ -1,7 +1,9 @@
 //! Several worlds: those that a step on one leaves.
-ghost use Rattle.std.specs.Prelude.{◌≡◌, ◌<◌, ◌≤◌, [], ◌∷◌, length, IfOk, IfErr, IfSome, OnOk};
+ghost use Rattle.std.specs.Prelude.{◌≡◌, ◌<◌, ◌≤◌, ◌+◌, [], ◌∷◌, length, IfOk, IfErr, IfSome, OnOk};
 ghost use Rattle.aq_prog.specs.Gates.{IsValidGate};
+ghost use Rattle.aq_store.specs.Count.{after};
 ghost use Rattle.aq_store.specs.Nodes.{FitsStore, total_cost};
+ghost use Rattle.aq_store.specs.Stops.{GivesUp};
 ghost use Rattle.aq_gate_ops.specs.Action.{IsActing};
 ghost use Rattle.aq_symbolic.specs.Memos.{AreOutcomes, AreResets};
 ghost use Rattle.aq_symbolic.specs.Moves.{of_gate, of_measurement, of_reset};
@@ -17,6 +19,20 @@ use aq_label::Label;
 use aq_prog::{Gate, Guard};
 use aq_store::{Steps, Stop, Store};
 use std::alloc::{AllocError, Global};
+
+/// Takes a step for each world that is made. `Spent`: so many are more than were left.
+pub fn pay<L: Label>(steps: &mut Steps, made: usize) -> Result<(), Stop<L>>
+    ensures ok { OnOk result (steps.new ≡ after made steps.old) }
+    ensures limit { steps.new.limit ≡ steps.old.limit }
+    ensures later { steps.old.taken ≤ steps.new.taken }
+    ensures cheap { steps.new.taken ≤ steps.old.taken + made }
+    ensures refused { IfErr result (GivesUp made steps.old steps.new) }
+{
+    match steps.take_all(made as u64) {
+        Ok(()) => Ok(()),
+        Err(_) => Err(Stop::Spent),
+    }
+}
 
 pub(crate) fn one(alloc: Global, world: World) -> Result<Vec<World>, AllocError>
     ensures { IfOk result (λ list. list.items ≡ world ∷ []) }
@@ -80,6 +96,28 @@ pub(crate) fn split_world(alloc: Global, world: World, bit: u32) -> Result<Vec<W
     Ok(same)
 }
 
+/// The same worlds. Where they are two, that takes a step. `Spent`: no step is left.
+pub(crate) fn split_paid<L: Label>(
+    alloc: Global,
+    world: World,
+    bit: u32,
+    steps: &mut Steps,
+) -> Result<Vec<World>, Stop<L>>
+    requires start { bit < length world.start }
+    requires bits { bit < length world.bits }
+    ensures split { IfOk result (λ list. IsSplit bit world list.items) }
+    ensures limit { steps.new.limit ≡ steps.old.limit }
+    ensures later { steps.old.taken ≤ steps.new.taken }
+    ensures cheap { steps.new.taken ≤ steps.old.taken + 1 }
+    ensures refused { IfErr result (GivesUp 1 steps.old steps.new) }
+{
+    let Ok(halves) = split_world(alloc, world, bit) else {
+        return Err(Stop::Memory);
+    };
+    pay(steps, halves.len() - 1)?;
+    Ok(halves)
+}
+
 /// The world after a gate. `Wide`: it doesn't fit on the vector of some word. `Spent`: four times the words times
 /// `2^(n+1)` are more steps than were left.
 pub fn play_gate<L: Label>(
@@ -136,6 +174,7 @@ pub fn measure<L: Label>(
     ensures err { let move = of_measurement qubit bit in
         IfErr result (Stops L.parts L.part_count move store.old (world ∷ []) steps.old steps.new) }
 {
+    pay(steps, 2)?;
     let zero = world.take_outcome(alloc, store, &mut memos.zero, qubit, bit, false, steps)?;
     let other = world.take_outcome(alloc, store, &mut memos.other, qubit, bit, true, steps)?;
     let Ok(both) = two(alloc, zero, other) else {
@@ -170,22 +209,14 @@ pub fn reset<L: Label>(
     ensures err { IfErr result
         (Stops L.parts L.part_count (of_reset qubit) store.old (world ∷ []) steps.old steps.new) }
 {
-    let zero = world.reset(
-        alloc,
-        store,
-        &mut memos.zero,
-        &mut memos.acting,
-        qubit,
-        false,
-        steps,
-    )?;
+    pay(steps, 2)?;
+    let zero = world.take_outcome(alloc, store, &mut memos.zero, qubit, None, false, steps)?;
     let other = world.reset(
         alloc,
         store,
         &mut memos.other,
         &mut memos.acting,
         qubit,
-        true,
         steps,
     )?;
     let Ok(both) = two(alloc, zero, other) else {

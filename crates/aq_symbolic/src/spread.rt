@@ -9,7 +9,7 @@ ghost use Rattle.aq_symbolic.specs.Steps.{Keeps};
 
 use crate::kept::World;
 use crate::memos::Memos;
-use crate::several::{assume, measure, one, play_gate, reset, split_world};
+use crate::several::{assume, measure, one, play_gate, reset, split_paid};
 use aq_label::Label;
 use aq_prog::{Guard, Stmt};
 use aq_store::{Steps, Stop, Store};
@@ -44,9 +44,7 @@ fn play_one<L: Label>(
         Stmt::Measure { qubit, bit } => measure(alloc, store, memos, world, *qubit, *bit, steps),
         Stmt::Reset { qubit } => reset(alloc, store, memos, world, *qubit, steps),
         Stmt::If { guard, yes, no } => {
-            let Ok(halves) = split_world(alloc, world, guard.bit) else {
-                return Err(Stop::Memory);
-            };
+            let halves = split_paid(alloc, world, guard.bit, steps)?;
             play_branches(
                 alloc,
                 store,

@@ -1,21 +1,45 @@
-use Rattle.std.proofs.Common.{◌+◌, ◌*◌, ◌≤◌, true, false, length, arith}
+use Rattle.std.proofs.Common.{◌+◌, ◌*◌, ◌≤◌, true, false, length, refl, ◌∙◌, arith}
 use Rattle.aq_obligations.specs.Worlds.{measured_world}
 use Rattle.aq_store.proofs.StopLemmas.{passed_on}
 use Rattle.aq_store.proofs.TableLemmas.{HasShape-Extends}
 use Rattle.aq_measure_ops.proofs.ProjectionLemmas.{projecting_later}
 use Rattle.aq_symbolic.specs.Weights.{price}
-use Rattle.aq_symbolic.proofs.StepLemmas.{halves_leave, halves_stop, measured_half, two_fit}
+use Rattle.aq_symbolic.proofs.StepLemmas.{halves_leave, halves_stop, halves_unpaid, measured_half, two_fit}
+use Rattle.aq_symbolic.proofs.StopLemmas.{keeps_paid, keeps_then, stopped_memory}
+use Rattle.aq_symbolic.proofs.WeightLemmas.{price_some}
 use Rattle.aq_symbolic.proofs.several.measure.Goals as goal
 
 pub take_outcome-requires-2-clause-fits : goal.take_outcome-requires-2-clause-fits
 take_outcome-requires-2-clause-fits g c = HasShape-Extends c.args.store.now c.take_outcome.new.store c.take_outcome.ensures.keeps.table c.args.world.lsta.shape.items c.args.world.lsta.root c.requires.fits
 
+pub returns-in_err-pay-clause-err : goal.returns-in_err-pay-clause-err
+returns-in_err-pay-clause-err g c =
+    passed_on _ c.from_residual.result c.in_err-pay.field-0.0 c.from_residual.ensures
+    (halves_unpaid g.L.Label.parts g.L.Label.part_count (λ n x. measured_world n c.args.qubit c.args.bit false x) (λ n x. measured_world n c.args.qubit c.args.bit true x) c.args.store.now c.args.steps.now c.pay.new.steps c.args.world c.in_err-pay.field-0.0 c.requires.fits c.pay.ensures.cheap c.in_err-pay.ensures.refused)
+
+pub returns-in_err-pay-clause-keeps : goal.returns-in_err-pay-clause-keeps
+returns-in_err-pay-clause-keeps g c = keeps_paid c.args.store.now c.args.steps.now c.pay.new.steps c.requires.paid c.pay.ensures.later c.pay.ensures.limit
+
+pub returns-in_err-zero-clause-err : goal.returns-in_err-zero-clause-err
+returns-in_err-zero-clause-err g c =
+    let some = price_some c.args.store.now c.args.world.lsta c.requires.fits in
+    let paid = c.pay.ensures.cheap in
+    let le : c.pay.new.steps.taken + 2 * price c.args.world.lsta.shape.items ≤ c.args.steps.now.taken + 8 * price c.args.world.lsta.shape.items = omega (arith, some, paid) in
+    passed_on _ c.from_residual-in_err-zero.result c.in_err-zero.field-0.0 c.from_residual-in_err-zero.ensures
+    (halves_stop g.L.Label.parts g.L.Label.part_count (λ n x. measured_world n c.args.qubit c.args.bit false x) (λ n x. measured_world n c.args.qubit c.args.bit true x) c.args.store.now c.args.steps.now c.pay.new.steps c.take_outcome.new.steps (2 * price c.args.world.lsta.shape.items) c.args.world c.in_err-zero.field-0.0 c.pay.ensures.limit le c.in_err-zero.ensures.refused c.in_err-zero.ensures.narrow)
+
+pub returns-in_err-zero-clause-keeps : goal.returns-in_err-zero-clause-keeps
+returns-in_err-zero-clause-keeps g c =
+    keeps_then c.args.store.now c.args.store.now c.take_outcome.new.store c.args.steps.now c.pay.new.steps c.take_outcome.new.steps (keeps_paid c.args.store.now c.args.steps.now c.pay.new.steps c.requires.paid c.pay.ensures.later c.pay.ensures.limit) c.take_outcome.ensures.keeps
+
 pub returns-in_err-other-clause-err : goal.returns-in_err-other-clause-err
 returns-in_err-other-clause-err g c =
+    let some = price_some c.args.store.now c.args.world.lsta c.requires.fits in
+    let paid = c.pay.ensures.cheap in
     let first = c.take_outcome.ensures.steps in
-    let le : c.take_outcome.new.steps.taken + 2 * price c.args.world.lsta.shape.items ≤ c.args.steps.now.taken + 8 * price c.args.world.lsta.shape.items = omega (arith, first) in
+    let le : c.take_outcome.new.steps.taken + 2 * price c.args.world.lsta.shape.items ≤ c.args.steps.now.taken + 8 * price c.args.world.lsta.shape.items = omega (arith, some, paid, first) in
     passed_on _ c.from_residual-in_err-other.result c.in_err-other.field-0.0 c.from_residual-in_err-other.ensures
-    (halves_stop g.L.Label.parts g.L.Label.part_count (λ n x. measured_world n c.args.qubit c.args.bit false x) (λ n x. measured_world n c.args.qubit c.args.bit true x) c.args.store.now c.args.steps.now c.take_outcome.new.steps c.take_outcome-2.new.steps (2 * price c.args.world.lsta.shape.items) c.args.world c.in_err-other.field-0.0 c.take_outcome.ensures.keeps.limit le c.in_err-other.ensures.refused c.in_err-other.ensures.narrow)
+    (halves_stop g.L.Label.parts g.L.Label.part_count (λ n x. measured_world n c.args.qubit c.args.bit false x) (λ n x. measured_world n c.args.qubit c.args.bit true x) c.args.store.now c.args.steps.now c.take_outcome.new.steps c.take_outcome-2.new.steps (2 * price c.args.world.lsta.shape.items) c.args.world c.in_err-other.field-0.0 (c.take_outcome.ensures.keeps.limit ∙ c.pay.ensures.limit) le c.in_err-other.ensures.refused c.in_err-other.ensures.narrow)
 
 pub alive-requires : goal.alive-requires
 alive-requires g c = two_fit c.take_outcome.new.store c.take_outcome-2.new.store c.in_ok-zero.zero c.in_ok-other.other c.in-Ok.both.items c.in-Ok.ensures c.take_outcome-2.ensures.keeps.table c.in_ok-zero.ensures.set.fits c.in_ok-other.ensures.set.fits
@@ -24,11 +48,31 @@ pub returns-clause-ok : goal.returns-clause-ok
 returns-clause-ok g c =
     let first = c.take_outcome.ensures.steps in
     let second = c.take_outcome-2.ensures.steps in
-    let cheap : c.take_outcome-2.new.steps.taken ≤ c.args.steps.now.taken + 8 * price c.args.world.lsta.shape.items = omega (arith, first, second) in
+    let some = price_some c.args.store.now c.args.world.lsta c.requires.fits in
+    let paid = c.pay.ensures.cheap in
+    let cheap : c.take_outcome-2.new.steps.taken ≤ c.args.steps.now.taken + 8 * price c.args.world.lsta.shape.items = omega (arith, some, paid, first, second) in
     halves_leave g.L.Label.parts g.L.Label.part_count (λ n x. measured_world n c.args.qubit c.args.bit false x) (λ n x. measured_world n c.args.qubit c.args.bit true x) c.args.store.now c.take_outcome.new.store c.take_outcome-2.new.store c.args.steps.now c.take_outcome-2.new.steps c.args.world c.in_ok-zero.zero c.in_ok-other.other c.in-Ok.both.items c.in-Ok-alive.list.items c.take_outcome.ensures.keeps.table c.take_outcome-2.ensures.keeps.table
     (measured_half g.L.Label.parts g.L.Label.part_count c.args.qubit c.args.bit false c.args.store.now c.take_outcome.new.store c.args.world c.in_ok-zero.zero c.in_ok-zero.ensures.fields c.in_ok-zero.ensures.set)
     (measured_half g.L.Label.parts g.L.Label.part_count c.args.qubit c.args.bit true c.take_outcome.new.store c.take_outcome-2.new.store c.args.world c.in_ok-other.other c.in_ok-other.ensures.fields c.in_ok-other.ensures.set)
     c.in-Ok.ensures c.in-Ok-alive.ensures cheap
+
+pub returns-in_default-clause-err : goal.returns-in_default-clause-err
+returns-in_default-clause-err g c =
+    let some = price_some c.args.store.now c.args.world.lsta c.requires.fits in
+    let paid = c.pay.ensures.cheap in
+    let first = c.take_outcome.ensures.steps in
+    let second = c.take_outcome-2.ensures.steps in
+    let cheap : c.take_outcome-2.new.steps.taken ≤ c.args.steps.now.taken + 8 * price c.args.world.lsta.shape.items = omega (arith, some, paid, first, second) in
+    halves_stop g.L.Label.parts g.L.Label.part_count (λ n x. measured_world n c.args.qubit c.args.bit false x) (λ n x. measured_world n c.args.qubit c.args.bit true x) c.args.store.now c.args.steps.now c.args.steps.now c.take_outcome-2.new.steps (8 * price c.args.world.lsta.shape.items) c.args.world _ refl (omega arith) (stopped_memory c.args.steps.now c.take_outcome-2.new.steps (8 * price c.args.world.lsta.shape.items) cheap) tt
+
+pub returns-in_default-alive-clause-err : goal.returns-in_default-alive-clause-err
+returns-in_default-alive-clause-err g c =
+    let some = price_some c.args.store.now c.args.world.lsta c.requires.fits in
+    let paid = c.pay.ensures.cheap in
+    let first = c.take_outcome.ensures.steps in
+    let second = c.take_outcome-2.ensures.steps in
+    let cheap : c.take_outcome-2.new.steps.taken ≤ c.args.steps.now.taken + 8 * price c.args.world.lsta.shape.items = omega (arith, some, paid, first, second) in
+    halves_stop g.L.Label.parts g.L.Label.part_count (λ n x. measured_world n c.args.qubit c.args.bit false x) (λ n x. measured_world n c.args.qubit c.args.bit true x) c.args.store.now c.args.steps.now c.args.steps.now c.take_outcome-2.new.steps (8 * price c.args.world.lsta.shape.items) c.args.world _ refl (omega arith) (stopped_memory c.args.steps.now c.take_outcome-2.new.steps (8 * price c.args.world.lsta.shape.items) cheap) tt
 
 pub take_outcome-requires-2-clause-memo : goal.take_outcome-requires-2-clause-memo
 take_outcome-requires-2-clause-memo g c = projecting_later g.L.Label.parts c.args.qubit true (length c.args.world.lsta.shape.items) c.args.store.now c.take_outcome.new.store c.take_outcome.ensures.keeps.table c.args.memos.now.other c.requires.memos.other

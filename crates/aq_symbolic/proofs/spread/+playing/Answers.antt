@@ -1,4 +1,4 @@
-use Rattle.std.proofs.Common.{rules, ◌≡◌, ◌<◌, ◌+◌, ◌*◌, ◌∙◌, true, false, List, [], ◌∷◌, length, drop, refl, sym, ap, subst, arith, length-append}
+use Rattle.std.proofs.Common.{rules, ◌≡◌, ◌<◌, ◌≤◌, ◌+◌, ◌*◌, ◌∙◌, true, false, List, [], ◌∷◌, length, drop, refl, sym, ap, subst, arith, length-append}
 use Rattle.std.specs.Vec.{vec_len}
 use Rattle.std.proofs.Math.ListN.{drop_of_length-le}
 use Rattle.std.proofs.lemmas.Iterator.Adapters.{YieldsList-from_vec}
@@ -6,12 +6,13 @@ use Rattle.std.proofs.lemmas.Iterator.Consumers.{YieldsList-turn, YieldsList-end
 use Rattle.aq_prog.specs.declared.stmt.Stmt.{Stmt}
 use Rattle.aq_prog.specs.declared.stmt.Stmt.TheOpen.{Stmt-F}
 use Rattle.aq_plain.proofs.PlayLaws.{ok_gives, err_gives, weight, weight_of, branch_weight, next_weight}
+use Rattle.aq_store.specs.Nodes.{total_cost}
 use Rattle.aq_store.proofs.StopLemmas.{passed_on}
 use Rattle.aq_symbolic.specs.Memos.{AreMemos}
 use Rattle.aq_symbolic.specs.Moves.{of_branch, of_stmt, of_gate, of_measurement, of_reset, of_assumption}
 use Rattle.aq_symbolic.specs.Playing.{Collects, Leaves, Stops}
 use Rattle.aq_symbolic.specs.declared.kept.World.{World}
-use Rattle.aq_symbolic.proofs.BranchLemmas.{if_leaves, if_stops, leaves_as, stops_as, taken_leaves, taken_stops}
+use Rattle.aq_symbolic.proofs.BranchLemmas.{if_leaves, if_stops, if_unpaid, leaves_as, stops_as, taken_leaves, taken_stops}
 use Rattle.aq_symbolic.proofs.CallLemmas.{assume_bits, assume_start, assumed_leaves, fits_call, gate_call, if_bits, if_start, measure_bit, measure_qubit, memory_at, next_plays, next_uncut, no_plays, no_uncut, one_plays, one_stmt_plays, reset_qubit, yes_plays, yes_uncut}
 use Rattle.aq_symbolic.proofs.CollectLemmas.{collect_end, collect_none, collect_step, sized_at, stop_at}
 use Rattle.aq_symbolic.proofs.LeadLemmas.{leads_next, leads_out, leads_start, stop_next}
@@ -43,11 +44,11 @@ play_one-reset-requires-clause-fits g t c = fits_call c.args.store.now c.args.wo
 pub play_one-reset-requires-clause-qubit : goal.play_one-reset-requires-clause-qubit
 play_one-reset-requires-clause-qubit g t c = reset_qubit c.args.store.now c.args.world c.args.stmt.now c.in-Reset.qubit c.in-Reset.is c.requires.playable
 
-pub play_one-split_world-requires-clause-start : goal.play_one-split_world-requires-clause-start
-play_one-split_world-requires-clause-start g t c = if_start c.args.store.now c.args.world c.args.stmt.now c.in-If.guard c.in-If.yes c.in-If.no c.in-If.is c.requires.playable
+pub play_one-split_paid-requires-clause-start : goal.play_one-split_paid-requires-clause-start
+play_one-split_paid-requires-clause-start g t c = if_start c.args.store.now c.args.world c.args.stmt.now c.in-If.guard c.in-If.yes c.in-If.no c.in-If.is c.requires.playable
 
-pub play_one-split_world-requires-clause-bits : goal.play_one-split_world-requires-clause-bits
-play_one-split_world-requires-clause-bits g t c = if_bits c.args.store.now c.args.world c.args.stmt.now c.in-If.guard c.in-If.yes c.in-If.no c.in-If.is c.requires.playable
+pub play_one-split_paid-requires-clause-bits : goal.play_one-split_paid-requires-clause-bits
+play_one-split_paid-requires-clause-bits g t c = if_bits c.args.store.now c.args.world c.args.stmt.now c.in-If.guard c.in-If.yes c.in-If.no c.in-If.is c.requires.playable
 
 pub play_one-assume-requires-clause-start : goal.play_one-assume-requires-clause-start
 play_one-assume-requires-clause-start g t c = assume_start c.args.store.now c.args.world c.args.stmt.now c.in-Assume.guard c.in-Assume.is c.requires.playable
@@ -59,15 +60,18 @@ pub play_one-play_branches-requires : goal.play_one-play_branches-requires
 play_one-play_branches-requires g t c κs within =
     let s = c.args.stmt.now in
     let m = c.in-If in
-    let halves = c.in-Ok.halves.items in
+    let halves = c.in_ok-halves-in-If.halves.items in
+    let split = c.in_ok-halves-in-If.ensures.split in
+    let later = c.split_paid.ensures.later in
+    let paid : total_cost c.args.store.now ≤ c.split_paid.new.steps.taken = omega (arith, c.requires.paid, later) in
     let first = c.as_slice in
     let second = c.as_slice-in-If in
     let weighs = branch_weight s m.guard m.yes m.no m.is in
     let same = ap weight_of first.ensures in
     let same_other = ap weight_of second.ensures in
     let less : 5 * (weight_of first.result.now + weight_of second.result.now) + 4 < t = omega (arith, c.decreases, weighs, same, same_other) in
-    let yes = yes_plays c.args.store.now c.args.world s m.guard m.yes m.no first.result.now halves m.is first.ensures (c.in-Ok.ensures) c.requires.playable in
-    let no = no_plays c.args.store.now c.args.world s m.guard m.yes m.no second.result.now halves m.is second.ensures (c.in-Ok.ensures) c.requires.playable in
+    let yes = yes_plays c.args.store.now c.args.world s m.guard m.yes m.no first.result.now halves m.is first.ensures split c.requires.playable in
+    let no = no_plays c.args.store.now c.args.world s m.guard m.yes m.no second.result.now halves m.is second.ensures split c.requires.playable in
     let yes_free = yes_uncut s m.guard m.yes m.no first.result.now m.is first.ensures c.requires.uncut in
     let no_free = no_uncut s m.guard m.yes m.no second.result.now m.is second.ensures c.requires.uncut in
     search rules
@@ -104,13 +108,13 @@ play_one-returns-in-Reset-clause-memos g t c =
     (memos_out g.L.Label.parts g.L.Label.part_count (length c.args.world.lsta.shape.items) c.reset.new.store c.reset.new.memos c.args.stmt.now (Stmt-F.Reset c.in-Reset.qubit) (reset_out c.args.stmt.now c.in-Reset.qubit c.in-Reset.is))
     c.reset.ensures.memos
 
-pub play_one-returns-in-Ok-clause-memos : goal.play_one-returns-in-Ok-clause-memos
-play_one-returns-in-Ok-clause-memos g t c =
+pub play_one-returns-in_ok-halves-in-If-clause-memos : goal.play_one-returns-in_ok-halves-in-If-clause-memos
+play_one-returns-in_ok-halves-in-If-clause-memos g t c =
     ok_always c.play_branches.result
     (memos_out g.L.Label.parts g.L.Label.part_count (length c.args.world.lsta.shape.items) c.play_branches.new.store c.args.memos.now c.args.stmt.now (Stmt-F.If c.in-If.guard c.in-If.yes c.in-If.no) (if_out c.args.stmt.now c.in-If.guard c.in-If.yes c.in-If.no c.in-If.is) tt)
 
-pub play_one-returns-in-Ok-assume-clause-memos : goal.play_one-returns-in-Ok-assume-clause-memos
-play_one-returns-in-Ok-assume-clause-memos g t c =
+pub play_one-returns-in-Ok-clause-memos : goal.play_one-returns-in-Ok-clause-memos
+play_one-returns-in-Ok-clause-memos g t c =
     memos_out g.L.Label.parts g.L.Label.part_count (length c.args.world.lsta.shape.items) c.args.store.now c.args.memos.now c.args.stmt.now (Stmt-F.Assume c.in-Assume.guard) (assume_out c.args.stmt.now c.in-Assume.guard c.in-Assume.is) tt
 
 pub play_one-returns-in-Gate-clause-ok : goal.play_one-returns-in-Gate-clause-ok
@@ -149,32 +153,46 @@ play_one-returns-in-Reset-clause-err g t c =
     (λ why p. stops_as g.L.Label.parts g.L.Label.part_count (of_stmt c.args.stmt.now) (of_reset c.in-Reset.qubit) c.args.store.now c.args.steps.now c.reset.new.steps (c.args.world ∷ []) why
     (reset_move c.args.stmt.now c.in-Reset.qubit c.in-Reset.is) p)
 
-pub play_one-returns-in-Ok-clause-ok : goal.play_one-returns-in-Ok-clause-ok
-play_one-returns-in-Ok-clause-ok g t c =
+pub play_one-returns-in_err-halves-in-If-clause-err : goal.play_one-returns-in_err-halves-in-If-clause-err
+play_one-returns-in_err-halves-in-If-clause-err g t c =
+    let m = c.in-If in
+    let fits = fits_call c.args.store.now c.args.world c.args.stmt.now c.requires.playable in
+    passed_on _ c.from_residual.result c.in_err-halves-in-If.field-0.0 c.from_residual.ensures
+    (stops_as g.L.Label.parts g.L.Label.part_count (of_stmt c.args.stmt.now) (of_if m.guard m.yes m.no) c.args.store.now c.args.steps.now c.split_paid.new.steps (c.args.world ∷ []) c.in_err-halves-in-If.field-0.0 (if_move c.args.stmt.now m.guard m.yes m.no m.is)
+    (if_unpaid g.L.Label.parts g.L.Label.part_count m.guard m.yes m.no c.args.store.now c.args.steps.now c.split_paid.new.steps c.args.world c.in_err-halves-in-If.field-0.0 fits c.split_paid.ensures.cheap c.in_err-halves-in-If.ensures.refused))
+
+pub play_one-returns-in_ok-halves-in-If-clause-ok : goal.play_one-returns-in_ok-halves-in-If-clause-ok
+play_one-returns-in_ok-halves-in-If-clause-ok g t c =
     let m = c.in-If in
     let first = c.as_slice in
     let second = c.as_slice-in-If in
+    let fits = fits_call c.args.store.now c.args.world c.args.stmt.now c.requires.playable in
+    let halves = c.in_ok-halves-in-If.halves.items in
+    let c1 = c.split_paid.new.steps in
     ok_gives c.play_branches.result c.play_branches.ensures.ok
     (λ list p. leaves_as g.L.Label.parts g.L.Label.part_count (of_stmt c.args.stmt.now) (of_if m.guard m.yes m.no) c.args.store.now c.play_branches.new.store c.args.steps.now c.play_branches.new.steps (c.args.world ∷ []) list.items (if_move c.args.stmt.now m.guard m.yes m.no m.is)
-    (if_leaves g.L.Label.parts g.L.Label.part_count m.guard m.yes m.no c.args.store.now c.play_branches.new.store c.args.steps.now c.play_branches.new.steps c.args.world c.in-Ok.halves.items list.items (c.in-Ok.ensures)
-    (subst (λ (l : List Stmt). Leaves g.L.Label.parts g.L.Label.part_count (of_branch m.guard m.yes l) c.args.store.now c.play_branches.new.store c.args.steps.now c.play_branches.new.steps c.in-Ok.halves.items list.items) second.ensures
-    (subst (λ (l : List Stmt). Leaves g.L.Label.parts g.L.Label.part_count (of_branch m.guard l second.result.now) c.args.store.now c.play_branches.new.store c.args.steps.now c.play_branches.new.steps c.in-Ok.halves.items list.items) first.ensures p))))
+    (if_leaves g.L.Label.parts g.L.Label.part_count m.guard m.yes m.no c.args.store.now c.play_branches.new.store c.args.steps.now c1 c.play_branches.new.steps c.args.world halves list.items fits c.in_ok-halves-in-If.ensures.split c.split_paid.ensures.cheap
+    (subst (λ (l : List Stmt). Leaves g.L.Label.parts g.L.Label.part_count (of_branch m.guard m.yes l) c.args.store.now c.play_branches.new.store c1 c.play_branches.new.steps halves list.items) second.ensures
+    (subst (λ (l : List Stmt). Leaves g.L.Label.parts g.L.Label.part_count (of_branch m.guard l second.result.now) c.args.store.now c.play_branches.new.store c1 c.play_branches.new.steps halves list.items) first.ensures p))))
 
-pub play_one-returns-in-Ok-clause-err : goal.play_one-returns-in-Ok-clause-err
-play_one-returns-in-Ok-clause-err g t c =
+pub play_one-returns-in_ok-halves-in-If-clause-err : goal.play_one-returns-in_ok-halves-in-If-clause-err
+play_one-returns-in_ok-halves-in-If-clause-err g t c =
     let m = c.in-If in
     let first = c.as_slice in
     let second = c.as_slice-in-If in
+    let fits = fits_call c.args.store.now c.args.world c.args.stmt.now c.requires.playable in
+    let halves = c.in_ok-halves-in-If.halves.items in
+    let c1 = c.split_paid.new.steps in
     err_gives c.play_branches.result c.play_branches.ensures.err
     (λ why p. stops_as g.L.Label.parts g.L.Label.part_count (of_stmt c.args.stmt.now) (of_if m.guard m.yes m.no) c.args.store.now c.args.steps.now c.play_branches.new.steps (c.args.world ∷ []) why (if_move c.args.stmt.now m.guard m.yes m.no m.is)
-    (if_stops g.L.Label.parts g.L.Label.part_count m.guard m.yes m.no c.args.store.now c.args.steps.now c.play_branches.new.steps c.args.world c.in-Ok.halves.items why (c.in-Ok.ensures)
-    (subst (λ (l : List Stmt). Stops g.L.Label.parts g.L.Label.part_count (of_branch m.guard m.yes l) c.args.store.now c.in-Ok.halves.items c.args.steps.now c.play_branches.new.steps why) second.ensures
-    (subst (λ (l : List Stmt). Stops g.L.Label.parts g.L.Label.part_count (of_branch m.guard l second.result.now) c.args.store.now c.in-Ok.halves.items c.args.steps.now c.play_branches.new.steps why) first.ensures p))))
+    (if_stops g.L.Label.parts g.L.Label.part_count m.guard m.yes m.no c.args.store.now c.args.steps.now c1 c.play_branches.new.steps c.args.world halves why fits c.in_ok-halves-in-If.ensures.split c.split_paid.ensures.cheap c.split_paid.ensures.limit
+    (subst (λ (l : List Stmt). Stops g.L.Label.parts g.L.Label.part_count (of_branch m.guard m.yes l) c.args.store.now halves c1 c.play_branches.new.steps why) second.ensures
+    (subst (λ (l : List Stmt). Stops g.L.Label.parts g.L.Label.part_count (of_branch m.guard l second.result.now) c.args.store.now halves c1 c.play_branches.new.steps why) first.ensures p))))
 
-pub play_one-returns-in-Ok-assume-clause-ok : goal.play_one-returns-in-Ok-assume-clause-ok
-play_one-returns-in-Ok-assume-clause-ok g t c =
-    leaves_as g.L.Label.parts g.L.Label.part_count (of_stmt c.args.stmt.now) (of_assumption c.in-Assume.guard) c.args.store.now c.args.store.now c.args.steps.now c.args.steps.now (c.args.world ∷ []) c.in-Ok-assume.list.items (assume_move c.args.stmt.now c.in-Assume.guard c.in-Assume.is)
-    (assumed_leaves g.L.Label.parts g.L.Label.part_count c.in-Assume.guard c.args.store.now c.args.steps.now c.args.world c.in-Ok-assume.list.items (c.in-Ok-assume.ensures))
+pub play_one-returns-in-Ok-clause-ok : goal.play_one-returns-in-Ok-clause-ok
+play_one-returns-in-Ok-clause-ok g t c =
+    leaves_as g.L.Label.parts g.L.Label.part_count (of_stmt c.args.stmt.now) (of_assumption c.in-Assume.guard) c.args.store.now c.args.store.now c.args.steps.now c.args.steps.now (c.args.world ∷ []) c.in-Ok.list.items (assume_move c.args.stmt.now c.in-Assume.guard c.in-Assume.is)
+    (assumed_leaves g.L.Label.parts g.L.Label.part_count c.in-Assume.guard c.args.store.now c.args.steps.now c.args.world c.in-Ok.list.items (c.in-Ok.ensures))
 
 -- ---- the branch that a world takes
 
