@@ -1,5 +1,5 @@
 -- The worlds of a case, from its automaton.
-use Rattle.std.proofs.Common.{◌≡◌, ℕ, ◌+◌, ◌≤◌, List, ◌++◌, map, length, slice_get, Option, Some, All, Contains, refl, sym, ap, ◌∙◌, subst, arith}
+use Rattle.std.proofs.Common.{◌≡◌, ℕ, ◌+◌, ◌≤◌, inl, inr, List, ◌++◌, map, length, slice_get, Option, Some, All, Contains, refl, sym, ap, ◌∙◌, subst, arith}
 use Rattle.std.proofs.Math.Nat.{mul-le-mul_left}
 use Rattle.std.proofs.lemmas.List.Elements.{All-contains, All-weaker}
 use Rattle.aq_ring.specs.Fractions.{Amplitude}
@@ -8,7 +8,8 @@ use Rattle.aq_sets.specs.Sizes.{size_of}
 use Rattle.aq_sets.specs.declared.sets.Sets.{Sets}
 use Rattle.aq_sets.proofs.SizeLaws.{has_shape}
 use Rattle.aq_store.specs.Count.{Count}
-use Rattle.aq_store.specs.Nodes.{HasShape}
+use Rattle.aq_store.specs.Nodes.{FitsStore, HasShape}
+use Rattle.aq_store.specs.Stops.{GivesUp}
 use Rattle.aq_store.specs.declared.lsta.Lsta.{Lsta}
 use Rattle.aq_store.specs.declared.store.Stop.{Stop}
 use Rattle.aq_store.specs.declared.store.Stop.TheVariants.{Spent, Wide, WideParts, Memory}
@@ -36,14 +37,14 @@ use Rattle.aq_symbolic.specs.Steps.{Keeps}
 use Rattle.aq_symbolic.specs.Weights.{weights}
 use Rattle.aq_symbolic.specs.Worlds.{AreSized, ComesFrom, IsSized, View, world_of}
 use Rattle.aq_symbolic.specs.declared.kept.World.{World}
-use Rattle.aq_decide.specs.Budgets.{play_budget, prices, spread_weight}
+use Rattle.aq_decide.specs.Budgets.{play_budget, prices, split_budget, spread_weight}
 use Rattle.aq_decide.specs.Kept.{AreWorlds, alone}
 use Rattle.aq_decide.specs.Starting.{BeginsIf}
 use Rattle.aq_decide.specs.Playing.{CaseFits}
 use Rattle.aq_decide.specs.Splitting.{AreDecided, HasBits, HaveBits}
 use Rattle.aq_decide.specs.Stops.{GivesUpFor}
 use Rattle.aq_decide.proofs.Elements.{get_contains}
-use Rattle.aq_decide.proofs.FewLemmas.{decided_light, first_light, fragment_named, named_all}
+use Rattle.aq_decide.proofs.FewLemmas.{added_light, decided_light, first_light, fragment_named, named_all}
 use Rattle.aq_decide.proofs.FitLemmas.{case_fits, case_unfit}
 use Rattle.aq_decide.proofs.ShowLemmas.{IsKeptOf, case_worlds, end_worlds, places, start_twins, whole_proper, whole_shows, whole_view}
 use Rattle.aq_decide.proofs.StandLemmas.{Stands}
@@ -57,6 +58,13 @@ gives_up P W bound most before now Spent le f s c = let h = s.spent refl in omeg
 gives_up P W bound most before now (Wide l r) le f s c = f l r c
 gives_up P W bound most before now (WideParts l r) le f s c = absurd c
 gives_up P W bound most before now Memory le f s c = tt
+
+-- a call that gives up after another
+pub gives_up_later : (W : Type 0) (bound most : ℕ) (start before now : Count) (why : Stop Amplitude) → before.limit ≡ start.limit → before.taken + bound ≤ start.taken + most → GivesUp bound before now why → GivesUpFor W most start why
+gives_up_later W bound most start before now Spent same le g = let h = g.spent refl in omega (arith, h, le, same)
+gives_up_later W bound most start before now (Wide l r) same le g = elim g.alone [ inl e ↦ cc | inr e ↦ cc ]
+gives_up_later W bound most start before now (WideParts l r) same le g = elim g.alone [ inl e ↦ cc | inr e ↦ cc ]
+gives_up_later W bound most start before now Memory same le g = tt
 
 module _ (p : Program) (s : Sets) (o : Obligation) (asked : CanBeDecided p s o) (c : BoundCase) (number : ℕ) (listed : slice_get o.from number ≡ Some c) where
   of_from : Contains o.from c
@@ -82,8 +90,12 @@ module _ (p : Program) (s : Sets) (o : Obligation) (asked : CanBeDecided p s o) 
     light = first_light p s o c levels first
         (All-weaker (IsBegun p.bits number lsta) (λ (w : World). (w.lsta.shape.items ≡ (size_of s.exprs c.set).shape) × (length w.bits ≡ p.bits)) (λ w h. (h.shape ∙ built.shape, h.bits)) first all_begun.0) all_begun.1
 
+    -- to play them leaves room for a step for each world that may come of them
+    pub play_leaves : steps_for o.fragment first + spread_weight p s o c ≤ play_budget p s o c
+    play_leaves = let a = mul-le-mul_left (statements o.fragment) light.1 in omega (arith, a)
+
     pub play_within : steps_for o.fragment first ≤ play_budget p s o c
-    play_within = let a = mul-le-mul_left (statements o.fragment) light.1 in omega (arith, a)
+    play_within = let a = play_leaves in omega (arith, a)
 
     pub unfit_wide : WorldsMeetGates → IsUnfit alone 1 (of_body o.fragment) old first → WideGate (meaning_of p s o)
     unfit_wide law u = case_unfit p s o asked.sets c bound.there law asked.bound.uncut of_from old number lsta first built fixed refl begins first_sized u
@@ -102,14 +114,27 @@ module _ (p : Program) (s : Sets) (o : Obligation) (asked : CanBeDecided p s o) 
       fits = case_fits p s o asked.sets c bound.there (map (world_of alone view old) first) twins
           (goes.fits p.qubits p.bits view (whole_proper (case_of s c) (size_of s.exprs c.set).shape) first_sized)
 
+      light_ends : weights (named_all o) 0 ends ≤ spread_weight p s o c
+      light_ends =
+          let b = goes.lighter (named_all o) 0 (fragment_named o) in
+          let e : outcomes o.fragment + 0 ≡ outcomes o.fragment = omega arith in
+          let d = ap (λ n. weights (named_all o) n first) e in
+          omega (arith, b, d, light.0)
+
+      pub split_within : steps_for o.fragment first + split_budget o.goal.cases ends ≤ play_budget p s o c
+      split_within =
+          let fit = All-weaker (IsSized p.qubits p.bits new) (λ (w : World). FitsStore new w.lsta) (λ w h. h.fits) ends (goes.sized p.qubits p.bits first_sized) in
+          let a = added_light o new ends fit in
+          let b = light_ends in
+          let d = play_leaves in
+          omega (arith, a, b, d)
+
       module _ (list : List World) (decided : AreDecided (asked_bits o.goal.cases p.bits) ends list) where
         pub few : prices list ≤ spread_weight p s o c
         few =
             let a = decided_light o p.bits ends list decided in
-            let b = goes.lighter (named_all o) 0 (fragment_named o) in
-            let e : outcomes o.fragment + 0 ≡ outcomes o.fragment = omega arith in
-            let d = ap (λ n. weights (named_all o) n first) e in
-            omega (arith, a, b, d, light.0)
+            let b = light_ends in
+            omega (arith, a, b)
 
         one_kept : (w : World) → SharesSet ends w → IsKeptOf s asked.sets c bound.there new number w
         one_kept w h =
@@ -133,3 +158,9 @@ module _ (p : Program) (s : Sets) (o : Obligation) (asked : CanBeDecided p s o) 
 -- ---- growth
 pub grows_played : (bound most : ℕ) (old new : Table) (before now : Count) → bound ≤ most → Keeps old new before now → now.taken ≤ before.taken + bound → Grows most old new before now
 grows_played bound most old new before now le k cheap = record { keeps = k.table; paid = k.paid; limit = k.limit; cheap = omega (arith, le, cheap) }
+
+-- and then the counter alone goes on
+pub grows_split : (bound more most : ℕ) (old new : Table) (before mid now : Count) → bound + more ≤ most → Keeps old new before mid → mid.taken ≤ before.taken + bound → mid.taken ≤ now.taken → now.limit ≡ mid.limit
+    → now.taken ≤ mid.taken + more → Grows most old new before now
+grows_split bound more most old new before mid now le k first later limit second =
+    record { keeps = k.table; paid = omega (arith, k.paid, later); limit = limit ∙ k.limit; cheap = omega (arith, le, first, second) }

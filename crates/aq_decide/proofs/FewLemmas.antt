@@ -1,9 +1,10 @@
 -- How many worlds come of a case, and what playing them takes.
-use Rattle.std.proofs.Common.{◌≡◌, ℕ, zero, suc, ◌+◌, ◌*◌, ◌^◌, ◌<◌, ◌≤◌, ◌==◌, ◌||◌, Bool, true, false, cond, List, [], ◌∷◌, ◌++◌, map, length, replicate, slice_get, slice_set, slice_index_or, Option, None, Some, All, Contains, refl, sym, ap, ap₂, ◌∙◌, arith, eq-eqb}
+use Rattle.std.proofs.Common.{◌≡◌, ℕ, zero, suc, ◌+◌, ◌-◌, ◌*◌, ◌^◌, ◌<◌, ◌≤◌, ◌==◌, ◌||◌, Bool, true, false, cond, List, [], ◌∷◌, ◌++◌, map, length, replicate, slice_get, slice_set, slice_index_or, Option, None, Some, All, Contains, refl, sym, ap, ap₂, ◌∙◌, arith, eq-eqb, length-append}
 use Rattle.std.specs.List.{count_by, flat_map, range_with_len, sum_by}
-use Rattle.std.proofs.Math.Nat.{mul-le-mul_left}
+use Rattle.std.proofs.Math.Nat.{mul-le-mul_left, mul-le-mul_right}
 use Rattle.std.proofs.Math.Pow.{pow_mono}
-use Rattle.std.proofs.lemmas.List.{length-replicate}
+use Rattle.std.proofs.lemmas.List.{length-map, length-replicate}
+use Rattle.std.proofs.lemmas.Nat.{pow_pos}
 use Rattle.std.proofs.lemmas.List.Elements.{All-head, All-tail, All-weaker, All-contains_itself, filter_passes}
 use Rattle.std.proofs.lemmas.List.Sums.{sum_by-cons, sum_by-append}
 use Rattle.aq_ring.specs.Fractions.{Amplitude}
@@ -12,6 +13,7 @@ use Rattle.aq_prog.specs.declared.program.Program.{Program}
 use Rattle.aq_prog.specs.declared.stmt.Guard.{Guard}
 use Rattle.aq_sets.specs.Sizes.{size_of}
 use Rattle.aq_sets.specs.declared.sets.Sets.{Sets}
+use Rattle.aq_store.specs.Nodes.{FitsStore}
 use Rattle.aq_obligations.specs.Claims.{ClaimCase}
 use Rattle.aq_obligations.specs.Counting.{is_named}
 use Rattle.aq_obligations.specs.Enough.{all_guards, conditions, guards, mentioned_bits, outcomes, words_of}
@@ -21,12 +23,14 @@ use Rattle.aq_obligations.specs.declared.bound.BoundCase.{BoundCase}
 use Rattle.aq_obligations.specs.declared.bound.Obligation.{Obligation}
 use Rattle.aq_decide.specs.Splitting.{asked_bits, is_asked}
 use Rattle.aq_symbolic.specs.Playing.{named_in}
-use Rattle.aq_symbolic.specs.Splitting.{Sight, seen}
+use Rattle.aq_set_build.specs.Tensors.{Table}
+use Rattle.aq_symbolic.specs.Splitting.{AreSplit, Sight, seen}
 use Rattle.aq_symbolic.specs.Steps.{is_unknown}
 use Rattle.aq_symbolic.specs.Weights.{AreNamed, open_bits, open_from, open_one, price, weight, weights}
+use Rattle.aq_symbolic.specs.Worlds.{AllFitStore}
 use Rattle.aq_symbolic.specs.declared.kept.World.{World}
-use Rattle.aq_symbolic.proofs.WeightLemmas.{open-set, price_within}
-use Rattle.aq_decide.specs.Budgets.{prices, spread_weight}
+use Rattle.aq_symbolic.proofs.WeightLemmas.{open-set, price_some, price_within}
+use Rattle.aq_decide.specs.Budgets.{prices, split_budget, spread_weight}
 use Rattle.aq_decide.specs.Splitting.{AreDecided}
 
 power : (m : ℕ) → 2 ^ suc m ≡ 2 * 2 ^ m
@@ -230,3 +234,105 @@ decided_light o m ends list d =
     let f = flat_heavy named (in_worlds (map split (asked_bits o.goal.cases m))) (decided_heavy named (asked_bits o.goal.cases m) (asked_all o m)) (map (seen cases by_price) ends) in
     let g = heavy_all named cases ends in
     omega (arith, a, b, e, f, g)
+
+-- ---- how many are added
+-- an automaton is seen as one vector
+by_one : Sight
+by_one k root shape = [] ∷ []
+
+-- worlds, each twice for each bit that may be decided
+abbrev in_all : (ℕ → Bool) → List World → ℕ
+in_all named ws = sum_by (λ w. 2 ^ open_bits named w) ws
+
+one_seen : (named : ℕ → Bool) (cases : ℕ → ClaimCase) (w : World) → heavy named (seen cases by_one w) ≡ 2 ^ open_bits named w
+unfolding heavy by_one
+one_seen named cases w = let e : 1 * 2 ^ open_bits named w ≡ 2 ^ open_bits named w = omega arith in e
+
+ones_all : (named : ℕ → Bool) (cases : ℕ → ClaimCase) (ws : List World) → sum_by (heavy named) (map (seen cases by_one) ws) ≡ in_all named ws
+ones_all named cases [] = refl
+ones_all named cases (w ∷ ws) =
+    let a = sum_by-cons (heavy named) (seen cases by_one w) (map (seen cases by_one) ws) in
+    let b = sum_by-cons (λ (u : World). 2 ^ open_bits named u) w ws in
+    let h = one_seen named cases w in
+    let rest = ones_all named cases ws in
+    omega (arith, a, b, h, rest)
+
+split_some : (k : ℕ) (u : meant.World) → 1 ≤ length (split k u)
+split_some k u = by (slice_get u.bits k)
+  where
+    by : (x : Option (Option Bool)) → 1 ≤ length (either k x u)
+    by None = omega arith
+    by (Some (Some b)) = omega arith
+    by (Some None) = omega arith
+
+split_more : (k : ℕ) (us : List meant.World) → length us ≤ length (flat_map (split k) us)
+split_more k [] = omega arith
+split_more k (u ∷ us) =
+    let a = length-append (split k u) (flat_map (split k) us) in
+    let here = split_some k u in
+    let rest = split_more k us in
+    omega (arith, a, here, rest)
+
+with_added : (cases : List BoundCase) (ws : List World) → length ws + split_budget cases ws ≡ in_all (is_asked cases) ws
+with_added cases [] = refl
+with_added cases (w ∷ ws) =
+    let a = sum_by-cons (λ (u : World). 2 ^ open_bits (is_asked cases) u - 1) w ws in
+    let b = sum_by-cons (λ (u : World). 2 ^ open_bits (is_asked cases) u) w ws in
+    let some = pow_pos (open_bits (is_asked cases) w) in
+    let rest = with_added cases ws in
+    omega (arith, a, b, some, rest)
+
+-- none is lost when a bit is decided
+pub split_longer : (bit : ℕ) (ws list : List World) → AreSplit bit ws list → length ws ≤ length list
+split_longer bit ws list d =
+    let cases : ℕ → ClaimCase = λ k. no_case in
+    let see = seen cases by_one in
+    let a = length-map ws see in
+    let b = length-map list see in
+    let e = ap {B = ℕ} (λ (us : List meant.World). length us) (d.worlds cases by_one) in
+    let more = split_more bit (map see ws) in
+    omega (arith, a, b, e, more)
+
+-- and those that are added are no longer owed
+pub split_left : (cases : List BoundCase) (bit : ℕ) (ws list : List World) → is_asked cases bit ≡ true → AreSplit bit ws list → length list + split_budget cases list ≤ length ws + split_budget cases ws
+split_left cases bit ws list asked d =
+    let named = is_asked cases in
+    let none : ℕ → ClaimCase = λ k. no_case in
+    let a = ones_all named none list in
+    let b = ones_all named none ws in
+    let e = ap (sum_by (heavy named)) (d.worlds none by_one) in
+    let f = flat_heavy named (split bit) (λ u. split_heavy named bit u asked) (map (seen none by_one) ws) in
+    let x = with_added cases list in
+    let y = with_added cases ws in
+    omega (arith, a, b, e, f, x, y)
+
+open_one_more : (a b : Bool) → (a ≡ true → b ≡ true) → (x : Option Bool) → open_one a x ≤ open_one b x
+open_one_more true b f None = let e = ap {B = ℕ} (λ (c : Bool). cond c 1 0) (f refl) in omega (arith, e)
+open_one_more false b f None = omega arith
+open_one_more a b f (Some c) = omega arith
+
+open_more : (fewer more : ℕ → Bool) → ((bit : ℕ) → fewer bit ≡ true → more bit ≡ true) → (k : ℕ) (bits : Partial) → open_from fewer k bits ≤ open_from more k bits
+unfolding open_from
+open_more fewer more f k [] = omega arith
+open_more fewer more f k (x ∷ bits) =
+    let rest = open_more fewer more f (suc k) bits in
+    let here = open_one_more (fewer k) (more k) (f k) x in
+    omega (arith, rest, here)
+
+one_light : (o : Obligation) (table : Table) (w : World) → FitsStore table w.lsta → 2 ^ open_bits (is_asked o.goal.cases) w - 1 ≤ weight (named_all o) 0 w
+one_light o table w fits =
+    let le : 2 ^ open_bits (is_asked o.goal.cases) w ≤ 2 ^ open_bits (named_all o) w = pow_mono (open_more (is_asked o.goal.cases) (named_all o) (asked_named o) 0 w.bits) in
+    let power = 2 ^ open_bits (named_all o) w in
+    let some = mul-le-mul_right power (price_some table w.lsta fits) in
+    let e : weight (named_all o) 0 w ≡ price w.lsta.shape.items * power = ap (λ n. price w.lsta.shape.items * 2 ^ n) (let z : 0 + open_bits (named_all o) w ≡ open_bits (named_all o) w = omega arith in z) in
+    omega (arith, le, some, e)
+
+-- the worlds that are added come to no more than those that there are
+pub added_light : (o : Obligation) (table : Table) (ws : List World) → AllFitStore table ws → split_budget o.goal.cases ws ≤ weights (named_all o) 0 ws
+added_light o table [] fit = omega arith
+added_light o table (w ∷ ws) fit =
+    let a = sum_by-cons (λ (u : World). 2 ^ open_bits (is_asked o.goal.cases) u - 1) w ws in
+    let b = sum_by-cons (weight (named_all o) 0) w ws in
+    let here = one_light o table w (All-head (λ (u : World). FitsStore table u.lsta) w ws fit) in
+    let rest = added_light o table ws (All-tail (λ (u : World). FitsStore table u.lsta) w ws fit) in
+    omega (arith, a, b, here, rest)

@@ -45,21 +45,22 @@ spread_sum p s o (c ∷ cases) =
     let rest = spread_sum p s o cases in
     omega (arith, a, b, rest)
 
-play_sum : (p : Program) (s : Sets) (o : Obligation) (cases : List BoundCase) → play_all p s o cases ≡ 4 * (statements o.fragment * spread_all p s o cases)
+play_sum : (p : Program) (s : Sets) (o : Obligation) (cases : List BoundCase) → play_all p s o cases ≡ 4 * (statements o.fragment * spread_all p s o cases) + spread_all p s o cases
 play_sum p s o [] = omega arith
 play_sum p s o (c ∷ cases) =
     let a = sum_by-cons (play_budget p s o) c cases in
-    let b = ap (λ n. 4 * (statements o.fragment * n)) (sum_by-cons (spread_weight p s o) c cases) in
+    let b = ap (λ n. 4 * (statements o.fragment * n) + n) (sum_by-cons (spread_weight p s o) c cases) in
     let rest = play_sum p s o cases in
     omega (arith, a, b, rest)
 
 -- with T for what all worlds come to
-played_and_judged : (T t stm V x y : ℕ) → x ≤ T → y ≡ T * (suc stm + V) → 4 * (stm * T) + x * (1 + V) ≤ 8 * y
+played_and_judged : (T t stm V x y : ℕ) → x ≤ T → y ≡ T * (suc stm + V) → 4 * (stm * T) + T + x * (1 + V) ≤ 8 * y
 played_and_judged T t stm V x y le e =
     let a = mul-le-mul_right (1 + V) le in
     let b : T * (suc stm + V) ≡ T * stm + T * (1 + V) = omega arith in
     let c : stm * T ≡ T * stm = omega arith in
-    omega (arith, a, b, c, e)
+    let d : T * (1 + V) ≡ T + T * V = omega arith in
+    omega (arith, a, b, c, d, e)
 
 pub all_steps : (p : Program) (s : Sets) (o : Obligation) (ws : List World) → All (HasLevels p s) o.from → All (HasLevels p s) o.goal.cases → prices ws ≤ spread_all p s o o.from
     → build_all s o.goal.cases + build_all s o.from + play_all p s o o.from + judge_budget s o ws ≤ enough p s o

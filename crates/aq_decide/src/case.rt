@@ -56,8 +56,12 @@ pub fn worlds_of_case(
         return Err(Stop::Memory);
     };
     let ends = go(alloc, store, first, obligation.fragment.as_slice(), steps)?;
-    let Ok(list) = split_all(alloc, ends, obligation.goal.cases.as_slice(), program.bits) else {
-        return Err(Stop::Memory);
-    };
+    let list = split_all(
+        alloc,
+        ends,
+        obligation.goal.cases.as_slice(),
+        program.bits,
+        steps,
+    )?;
     Ok(list)
 }
