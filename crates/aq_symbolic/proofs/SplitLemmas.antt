@@ -1,5 +1,5 @@
 -- Worlds in which a bit is decided: which worlds of the definitions they are.
-use Rattle.std.proofs.Common.{◌≡◌, ℕ, suc, ◌≤◌, inl, inr, Bool, true, false, cond, List, [], ◌∷◌, map, length, All, set, slice_get, Option, None, Some, refl, sym, ap, ap₂, subst, ◌∙◌, arith}
+use Rattle.std.proofs.Common.{◌≡◌, ℕ, suc, ◌≤◌, inl, inr, Bool, true, false, cond, List, [], ◌∷◌, map, All, set, slice_get, Option, None, Some, refl, sym, ap, ap₂, subst, ◌∙◌, arith}
 use Rattle.std.proofs.lemmas.List.{length-set}
 use Rattle.std.proofs.lemmas.List.Elements.{All-nil, All-cons}
 use Rattle.aq_ring.specs.Fractions.{Amplitude}
@@ -71,15 +71,6 @@ module _ {L : Type 0} (parts : L → List Amplitude) (v : View) (table : List (N
     | inl t ↦ ap (map (world_of parts v table)) t.1 ∙ sym (assumed_holds g (slice_get w.bits g.bit) (world_of parts v table w) t.0)
     | inr t ↦ ap (map (world_of parts v table)) t.1 ∙ sym (assumed_fails g (slice_get w.bits g.bit) (world_of parts v table w) h.closed_bit t.0)
   ]
-
--- ---- how many there are
-pub split_some : (bit : ℕ) (w : World) (list : List World) → IsSplit bit w list → 1 ≤ length list
-split_some bit w list (inl h) = let e = ap {B = ℕ} (λ (l : List World). length l) h.list_is in omega (arith, e)
-split_some bit w list (inr h) = let e = ap {B = ℕ} (λ (l : List World). length l) h.list_is in omega (arith, e)
-
-pub split_few : (bit : ℕ) (w : World) (list : List World) → IsSplit bit w list → length list ≤ 2
-split_few bit w list (inl h) = let e = ap {B = ℕ} (λ (l : List World). length l) h.list_is in omega (arith, e)
-split_few bit w list (inr h) = let e = ap {B = ℕ} (λ (l : List World). length l) h.list_is in omega (arith, e)
 
 -- ---- their sizes
 module _ {L : Type 0} (n m : ℕ) (table : List (Node L)) where

@@ -1,30 +1,48 @@
 //! Worlds of a small fragment, by hand.
 ghost use Rattle.std.specs.Prelude.{◌≤◌, [], ◌∷◌, IfOk};
 ghost use Rattle.aq_prog.specs.Cuts.{AreUncut};
+ghost use Rattle.aq_prog.specs.Gates.{IsValidGate};
 ghost use Rattle.aq_plain.specs.Replaying.{ArePlayable};
 ghost use Rattle.aq_store.specs.Nodes.{HasShape, total_cost};
 ghost use Rattle.aq_symbolic.specs.Worlds.{AreSized};
 
-use crate::{World, go};
-use aq_prog::{Guard, Stmt};
+use crate::{World, go, split};
+use aq_prog::{Gate, Guard, Stmt, gate_named};
 use aq_ring::Amp;
 use aq_store::{Id, Lsta, Steps, Stop, Store};
 use sqlite_items::Items;
 use std::alloc::Global;
 use std::test::Fail;
 
-/// Does nothing in either branch on bit 0, and measures qubit 0.
+/// No gate has the name.
+#[derive(Clone, Copy, Debug)]
+struct NoGate;
+
+/// The gate that flips qubit 0.
+fn flip(alloc: Global) -> Result<Gate, Fail>
+    ensures { IfOk result (λ gate. IsValidGate 1 gate) }
+{
+    match gate_named(b"x", 0) {
+        Some(gate) => Ok(Gate::new(Items::new(alloc), 0, gate.rows)),
+        None => Err(Fail::from(NoGate)),
+    }
+}
+
+/// Flips qubit 0 if bit 0 is 1, and measures qubit 0.
 fn branch_and_measurement(alloc: Global) -> Result<Items<Stmt>, Fail>
     ensures playable { IfOk result (ArePlayable 1 1) }
     ensures uncut { IfOk result AreUncut }
 {
+    let gate = flip(alloc)?;
+    let mut yes = Items::new(alloc);
+    yes.push(Stmt::Gate(gate))?;
     let mut body = Items::new(alloc);
     body.push(Stmt::If {
         guard: Guard {
             bit: 0,
             value: true,
         },
-        yes: Items::new(alloc),
+        yes,
         no: Items::new(alloc),
     })?;
     body.push(Stmt::Measure {
@@ -85,6 +103,14 @@ fn told(worlds: &[World], at: usize) -> Option<(bool, bool)> {
     Some((bit, *outcome))
 }
 
+/// Bit 0 at the start and now, if both are known.
+fn decided(worlds: &[World], at: usize) -> Option<(bool, bool)> {
+    let world = worlds.get(at)?;
+    let start = (*world.start.get(0)?)?;
+    let bit = (*world.bits.get(0)?)?;
+    Some((start, bit))
+}
+
 #[test]
 fn branch_on_an_open_bit(rt: HostRuntime) -> Result<(), Fail> {
     let mut store = Store::new(rt.alloc());
@@ -100,5 +126,21 @@ fn branch_on_an_open_bit(rt: HostRuntime) -> Result<(), Fail> {
     assert_eq!(rt; told(list.as_slice(), 1), Some((false, true)));
     assert_eq!(rt; told(list.as_slice(), 2), Some((true, false)));
     assert_eq!(rt; told(list.as_slice(), 3), Some((true, true)));
+    Ok(())
+}
+
+#[test]
+fn split_at_an_open_bit(rt: HostRuntime) -> Result<(), Fail> {
+    let mut store = Store::new(rt.alloc());
+    let mut steps = Steps::new(1000);
+    let worlds = open_world(rt.alloc(), &mut store, &mut steps)?;
+    let halves = split(rt.alloc(), worlds, 0)?;
+    assert_eq!(rt; halves.len(), 2);
+    assert_eq!(rt; decided(halves.as_slice(), 0), Some((false, false)));
+    assert_eq!(rt; decided(halves.as_slice(), 1), Some((true, true)));
+    let same = split(rt.alloc(), halves, 0)?;
+    assert_eq!(rt; same.len(), 2);
+    assert_eq!(rt; decided(same.as_slice(), 0), Some((false, false)));
+    assert_eq!(rt; decided(same.as_slice(), 1), Some((true, true)));
     Ok(())
 }
