@@ -1,11 +1,12 @@
 -- Lists of candidates grow, and are thinned.
-use Rattle.std.proofs.Common.{◌≡◌, ℕ, zero, suc, ◌+◌, ◌*◌, ◌<◌, ◌≤◌, inl, inr, List, [], ◌∷◌, ◌++◌, length, slice_get, Some, Contains, refl, sym, ap, subst, ◌∙◌, arith, sum_by}
+use Rattle.std.proofs.Common.{◌≡◌, ℕ, zero, suc, ◌+◌, ◌*◌, ◌<◌, ◌≤◌, ◌⊎◌, inl, inr, List, [], ◌∷◌, ◌++◌, length, slice_get, Some, Contains, refl, sym, ap, subst, ◌∙◌, arith, sum_by}
 use Rattle.std.specs.List.Sorted.{IsPermutation}
 use Rattle.std.proofs.Math.Nat.{mul-le-mul_right}
 use Rattle.std.proofs.lemmas.Bool.{cases_lt}
 use Rattle.std.proofs.lemmas.List.Sums.{sum_by_push}
 use Rattle.std.proofs.lemmas.List.Sorted.{IsPermutation-sym, Contains-permutation, sum_by-IsPermutation}
 use Rattle.std.proofs.lemmas.Option.{slice_get-get_or}
+use Rattle.aq_ring.specs.Fractions.{Amplitude}
 use Rattle.aq_store.specs.declared.node.Node.{Node}
 use Rattle.aq_store.specs.Count.{Count, after}
 use Rattle.aq_store.proofs.TableLemmas.{slice_get-push}
@@ -14,7 +15,8 @@ use Rattle.aq_include.specs.declared.step.Candidate.{Candidate}
 use Rattle.aq_store.specs.declared.store.Stop.{Stop}
 use Rattle.aq_store.specs.declared.store.Stop.TheVariants as stop
 use Rattle.aq_include.specs.Costs.{Takes, IsCause}
-use Rattle.aq_include.specs.Candidates.{IsWithin, Thins, ArePairChildren, IsCandidate, Offers, AreOfRel}
+use Rattle.aq_include.specs.Kinds.{IsHopeless}
+use Rattle.aq_include.specs.Candidates.{IsWithin, Thins, ArePairChildren, IsCandidate, IsCandidateAt, Offers, AreOfRel}
 use Rattle.aq_cert.proofs.MemberLemmas.{of-get}
 
 module _ {X : Type 0} where
@@ -75,38 +77,52 @@ thins-skip xs ys x h j y here within = record {
   lighter = λ f. omega (arith, sum_by_push f xs x, h.lighter f);
 }
 
-module _ {L : Type 0} (table : List (Node L)) where
-  pub offers-front : (c : ℕ) (rel : Rel) (d : ℕ) (xs ys : List Candidate) → Offers table c rel d xs → Offers table c rel d (xs ++ ys)
-  offers-front c rel d xs ys h = record { place = h.place; candidate = h.candidate; here = get-front xs ys h.place h.candidate h.here; is = h.is }
+light-more : (done a w q : ℕ) (s t : ℕ) → q ≤ 2 * a → s ≤ done * (2 * (a * w)) → t ≡ s + q * w → t ≤ (done + 1) * (2 * (a * w))
+light-more done a w q s t less h e = omega (arith, mul-le-mul_right w less)
 
-  light-more : (done a w q : ℕ) (s t : ℕ) → q ≤ 2 * a → s ≤ done * (2 * (a * w)) → t ≡ s + q * w → t ≤ (done + 1) * (2 * (a * w))
-  light-more done a w q s t less h e = omega (arith, mul-le-mul_right w less)
+module _ {L : Type 0} (parts : L → List Amplitude) (table : List (Node L)) where
+  pub offers-front : (c : ℕ) (rel : Rel) (d : ℕ) (xs ys : List Candidate) → Offers table c rel d xs ⊎ IsHopeless parts table c rel d → Offers table c rel d (xs ++ ys) ⊎ IsHopeless parts table c rel d
+  offers-front c rel d xs ys (inl h) = inl (record { place = h.place; candidate = h.candidate; here = get-front xs ys h.place h.candidate h.here; is = h.is })
+  offers-front c rel d xs ys (inr h) = inr h
 
-  pub of-rel-push : (c : ℕ) (rel : Rel) (number count done : ℕ) (list new : List Candidate) (x : Candidate) → done < count → AreOfRel table c rel number count done list
-      → x.number ≡ number → x.rel.goal ≡ rel.goal → x.choice ≡ done → ArePairChildren table c done rel.pairs x.rel.pairs → new ≡ list ++ x ∷ []
-      → AreOfRel table c rel number count (done + 1) new
-  of-rel-push c rel number count done list new x less h is_number is_goal is_choice pairs e =
-      subst (AreOfRel table c rel number count (done + 1)) (sym e) (record {
+  pub of-rel-push : (c : ℕ) (rel : Rel) (number count done : ℕ) (list new : List Candidate) (x : Candidate) → done < count → AreOfRel parts table c rel number count done list
+      → IsCandidateAt table c rel number done x → new ≡ list ++ x ∷ []
+      → AreOfRel parts table c rel number count (done + 1) new
+  of-rel-push c rel number count done list new x less h at e =
+      subst (AreOfRel parts table c rel number count (done + 1)) (sym e) (record {
         each = λ j y here. elim (slice_get-push list x j y here) [
           | inl k ↦ h.each j y k
           | inr k ↦ subst (IsCandidate table c rel number count) k.1 (record {
-            number_is = is_number;
-            same_goal = is_goal;
-            choice = omega (arith, is_choice);
-            pairs = subst (λ d. ArePairChildren table c d rel.pairs x.rel.pairs) (sym is_choice) pairs;
+            number_is = at.number_is;
+            same_goal = at.same_goal;
+            choice = omega (arith, at.choice_is);
+            pairs = subst (λ d. ArePairChildren table c d rel.pairs x.rel.pairs) (sym at.choice_is) at.pairs;
           })
         ];
         offers = λ d below. elim (cases_lt d done) [
           | inl early ↦ offers-front c rel d list (x ∷ []) (h.offers d early)
-          | inr late ↦ (let same : done ≡ d = omega arith in record {
+          | inr late ↦ (let same : done ≡ d = omega arith in inl (record {
             place = length list;
             candidate = x;
             here = get-last list x;
-            is = record { same_goal = is_goal; only = (subst (λ i. ArePairChildren table c i rel.pairs x.rel.pairs) same pairs).from };
-          })
+            is = record { same_goal = at.same_goal; only = (subst (λ i. ArePairChildren table c i rel.pairs x.rel.pairs) same at.pairs).from };
+          }))
         ];
-        light = λ f. light-more done (length rel.pairs) (f rel.goal) (length x.rel.pairs) _ _ pairs.short (h.light f)
-            (sum_by_push (λ (y : Candidate). length y.rel.pairs * f y.rel.goal) list x ∙ ap (λ g. sum_by (λ (y : Candidate). length y.rel.pairs * f y.rel.goal) list + length x.rel.pairs * f g) is_goal);
+        light = λ f. light-more done (length rel.pairs) (f rel.goal) (length x.rel.pairs) _ _ at.pairs.short (h.light f)
+            (sum_by_push (λ (y : Candidate). length y.rel.pairs * f y.rel.goal) list x ∙ ap (λ g. sum_by (λ (y : Candidate). length y.rel.pairs * f y.rel.goal) list + length x.rel.pairs * f g) at.same_goal);
+      })
+
+  -- a choice under which the relation relates no words is left out
+  pub of-rel-skip : (c : ℕ) (rel : Rel) (number count done : ℕ) (list new : List Candidate) → AreOfRel parts table c rel number count done list → IsHopeless parts table c rel done → new ≡ list
+      → AreOfRel parts table c rel number count (done + 1) new
+  of-rel-skip c rel number count done list new h none e =
+      subst (AreOfRel parts table c rel number count (done + 1)) (sym e) (record {
+        each = h.each;
+        offers = λ d below. elim (cases_lt d done) [
+          | inl early ↦ h.offers d early
+          | inr late ↦ (let same : done ≡ d = omega arith in inr (subst (IsHopeless parts table c rel) same none))
+        ];
+        light = λ f. (let more = h.light f in omega (arith, more));
       })
 
 -- ---- steps in a loop

@@ -53,7 +53,7 @@ of-across (Some l) (Some r) q h = (l, r, refl, refl, of-two (l.0, r.0) (l.1, r.1
 in-both : (o : Option (ℕ × ℕ)) (p : ℕ × ℕ) → o ≡ Some p → Contains (both o) p.0 × Contains (both o) p.1
 in-both o p e = subst (λ r. Contains (both r) p.0 × Contains (both r) p.1) (sym e) (in-head p.0 (p.1 ∷ []), in-tail p.0 (p.1 ∷ []) p.1 (in-head p.1 []))
 
-in-across : (o s : Option (ℕ × ℕ)) (l r : ℕ × ℕ) → o ≡ Some l → s ≡ Some r → Contains (across o s) (l.0, r.0) × Contains (across o s) (l.1, r.1)
+pub in-across : (o s : Option (ℕ × ℕ)) (l r : ℕ × ℕ) → o ≡ Some l → s ≡ Some r → Contains (across o s) (l.0, r.0) × Contains (across o s) (l.1, r.1)
 in-across o s l r e f =
     subst (λ u. Contains (across u s) (l.0, r.0) × Contains (across u s) (l.1, r.1)) (sym e)
     (subst (λ v. Contains (across (Some l) v) (l.0, r.0) × Contains (across (Some l) v) (l.1, r.1)) (sym f)
@@ -120,7 +120,7 @@ module _ {L : Type 0} (table : List (Node L)) where
       ])
 
   -- opened pairs have the children that the pairs have
-  opened-children : (c d : ℕ) (ps : List (ℕ × ℕ)) (os : List Opened) → AllZip (IsOpened table c) ps os → opened_children_of table d os ≡ pair_children_of table c d ps
+  pub opened-children : (c d : ℕ) (ps : List (ℕ × ℕ)) (os : List Opened) → AllZip (IsOpened table c) ps os → opened_children_of table d os ≡ pair_children_of table c d ps
   opened-children c d [] [] h = refl
   opened-children c d [] (o ∷ os) h = absurd h
   opened-children c d (p ∷ ps) [] h = absurd h

@@ -16,7 +16,7 @@ use Rattle.aq_store.proofs.TableLemmas.{slice_get-push, slice_get-some}
 use Rattle.aq_cert.specs.declared.cert.Rel.{Rel}
 use Rattle.aq_cert.specs.declared.cert.Macro.{Macro}
 use Rattle.aq_cert.specs.Goals.{rest_of, goal_rest}
-use Rattle.aq_store.proofs.ShapeLemmas.{one_shape}
+use Rattle.aq_store.proofs.ShapeLemmas.{one_shape, same_element}
 use Rattle.aq_store.specs.Words.{IsWord}
 use Rattle.aq_cert.specs.Meaning.{amplitudes}
 use Rattle.aq_cert.specs.Macros.{IsOfLevel, IsStepOf, IsRelated}
@@ -29,10 +29,11 @@ use Rattle.aq_include.specs.declared.own.Own.{Own}
 use Rattle.aq_store.specs.declared.store.Stop.{Stop}
 use Rattle.aq_store.specs.declared.store.Stop.TheVariants as stop
 use Rattle.aq_include.specs.Steps.{IsOnly, IsPairChild, IsOwn, pair_children_of}
-use Rattle.aq_include.proofs.ChildLemmas.{child-listed}
+use Rattle.aq_include.proofs.ChildLemmas.{child-of, child-listed}
 use Rattle.aq_include.specs.Costs.{Takes, IsCause, rel_weight, size}
 use Rattle.aq_store.specs.Words.{words}
-use Rattle.aq_include.specs.Candidates.{Thins, AreChildren, ArePairChildren, IsCandidate, IsCandidateAt, AreOfRel, IsStepOfSome, AreOfRels, IsOwnOf, Suffice, IsStepped}
+use Rattle.aq_include.specs.Candidates.{Thins, AreChildren, ArePairChildren, IsCandidate, IsCandidateAt, Offers, AreOfRel, IsStepOfSome, AreOfRels, IsOwnOf, Suffice, IsStepped}
+use Rattle.aq_include.specs.Kinds.{IsHopeless}
 use Rattle.aq_include.specs.Levels.{HasLevel}
 use Rattle.aq_include.proofs.BudgetLemmas.{words-cons}
 use Rattle.aq_include.proofs.CandidateLemmas.{get-front, get-last, offers-front}
@@ -125,9 +126,9 @@ module _ {L : Type 0} (table : List (Node L)) where
       at [] f = omega arith
       at (p ∷ ps) f = more (p ∷ ps) (positive p (f p (0, omega arith, refl)))
 
-  of-rels-append : (c : ℕ) (rest : ℕ → List ℕ) (rels : List Rel) (list more : List Candidate) (rel : Rel) (n : ℕ) (later : List ℕ) → rest rel.goal ≡ n ∷ later
-      → AreOfRels table c rest rels list → AreOfRel table c rel (length rels) n n more → AreOfRels table c rest (rels ++ rel ∷ []) (list ++ more)
-  of-rels-append c rest rels list more rel n later e h k = record {
+  of-rels-append : (parts : L → List Amplitude) (c : ℕ) (rest : ℕ → List ℕ) (rels : List Rel) (list more : List Candidate) (rel : Rel) (n : ℕ) (later : List ℕ) → rest rel.goal ≡ n ∷ later
+      → AreOfRels parts table c rest rels list → AreOfRel parts table c rel (length rels) n n more → AreOfRels parts table c rest (rels ++ rel ∷ []) (list ++ more)
+  of-rels-append parts c rest rels list more rel n later e h k = record {
     each = λ j x here. elim (get-append list more j x here) [
       | inl old ↦
           (let r = h.each j x old in
@@ -142,18 +143,16 @@ module _ {L : Type 0} (table : List (Node L)) where
       })
     ];
     offers = λ i s d m other here is less. elim (slice_get-push rels rel i s here) [
-      | inl old ↦ offers-front table c s d list more (h.offers i s d m other old is less)
+      | inl old ↦ offers-front parts table c s d list more (h.offers i s d m other old is less)
       | inr new ↦
           (let counts : m ≡ n = (let z : m ∷ other ≡ n ∷ later = sym is ∙ sym (ap (λ (r : Rel). rest r.goal) new.1) ∙ e in cc) in
-          let o = k.offers d (omega (arith, less, counts)) in
-          record {
-            place = length list + o.place;
-            candidate = o.candidate;
-            here = get-back list more o.place o.candidate o.here;
-            is = subst (λ (r : Rel). IsOnly table c r d o.candidate.rel) new.1 o.is;
-          })
+          subst (λ (r : Rel). Offers table c r d (list ++ more) ⊎ IsHopeless parts table c r d) new.1 (behind (k.offers d (omega (arith, less, counts)))))
     ];
   }
+    where
+      behind : {d : ℕ} → Offers table c rel d more ⊎ IsHopeless parts table c rel d → Offers table c rel d (list ++ more) ⊎ IsHopeless parts table c rel d
+      behind (inl o) = inl (record { place = length list + o.place; candidate = o.candidate; here = get-back list more o.place o.candidate o.here; is = o.is })
+      behind (inr none) = inr none
 
 -- ---- the relations one by one
 
@@ -214,22 +213,22 @@ module _ {L : Type 0} (table : List (Node L)) where
   cause-then a b n s m stop.Memory h k le = tt
 
   -- one relation more
-  pub of-rels-more : (goals : List Lsta) (level c : ℕ) (xs : List Rel) (k number : ℕ) (rel : Rel) (count : ℕ) (list more new : List Candidate) → k < length xs → rel ≡ get_or xs k rel → number ≡ k
-      → AtRel goals level c rel count → AreOfRels table c (goal_rest goals level) (take k xs) list → AreOfRel table c rel number count count more → new ≡ list ++ more
-      → AreOfRels table c (goal_rest goals level) (take (k + 1) xs) new
-  of-rels-more goals level c xs k number rel count list more new less is at r h g e =
+  pub of-rels-more : (parts : L → List Amplitude) (goals : List Lsta) (level c : ℕ) (xs : List Rel) (k number : ℕ) (rel : Rel) (count : ℕ) (list more new : List Candidate) → k < length xs → rel ≡ get_or xs k rel → number ≡ k
+      → AtRel goals level c rel count → AreOfRels parts table c (goal_rest goals level) (take k xs) list → AreOfRel parts table c rel number count count more → new ≡ list ++ more
+      → AreOfRels parts table c (goal_rest goals level) (take (k + 1) xs) new
+  of-rels-more parts goals level c xs k number rel count list more new less is at r h g e =
       let n : length (take k xs) ≡ k = length-take-le k xs (omega arith) in
-      let all : AreOfRels table c (goal_rest goals level) (take k xs ++ rel ∷ []) (list ++ more) =
-      of-rels-append table c (goal_rest goals level) (take k xs) list more rel count (goal_rest goals (level + 1) rel.goal) r.shape h
-      (subst (λ i. AreOfRel table c rel i count count more) (at ∙ sym n) g) in
-      subst (λ l. AreOfRels table c (goal_rest goals level) l new) (ap (λ (z : Rel). take k xs ++ z ∷ []) is ∙ sym (take_more xs k rel less))
-      (subst (λ l. AreOfRels table c (goal_rest goals level) (take k xs ++ rel ∷ []) l) (sym e) all)
+      let all : AreOfRels parts table c (goal_rest goals level) (take k xs ++ rel ∷ []) (list ++ more) =
+      of-rels-append table parts c (goal_rest goals level) (take k xs) list more rel count (goal_rest goals (level + 1) rel.goal) r.shape h
+      (subst (λ i. AreOfRel parts table c rel i count count more) (at ∙ sym n) g) in
+      subst (λ l. AreOfRels parts table c (goal_rest goals level) l new) (ap (λ (z : Rel). take k xs ++ z ∷ []) is ∙ sym (take_more xs k rel less))
+      (subst (λ l. AreOfRels parts table c (goal_rest goals level) (take k xs ++ rel ∷ []) l) (sym e) all)
 
-  pub light-more : (goals : List Lsta) (level c : ℕ) (xs : List Rel) (k number : ℕ) (rel : Rel) (count : ℕ) (list more new : List Candidate) → k < length xs → rel ≡ get_or xs k rel
-      → AtRel goals level c rel count → AreOfRel table c rel number count count more → new ≡ list ++ more
+  pub light-more : (parts : L → List Amplitude) (goals : List Lsta) (level c : ℕ) (xs : List Rel) (k number : ℕ) (rel : Rel) (count : ℕ) (list more new : List Candidate) → k < length xs → rel ≡ get_or xs k rel
+      → AtRel goals level c rel count → AreOfRel parts table c rel number count count more → new ≡ list ++ more
       → sum_by (λ (x : Candidate). rel_weight (goal_rest goals (level + 1)) x.rel) list ≤ 2 * sum_by (rel_weight (goal_rest goals level)) (take k xs)
       → sum_by (λ (x : Candidate). rel_weight (goal_rest goals (level + 1)) x.rel) new ≤ 2 * sum_by (rel_weight (goal_rest goals level)) (take (k + 1) xs)
-  light-more goals level c xs k number rel count list more new less is r g e h =
+  light-more parts goals level c xs k number rel count list more new less is r g e h =
       let w : ℕ = words (goal_rest goals (level + 1) rel.goal) in
       let one : rel_weight (goal_rest goals level) rel ≡ length rel.pairs * (count * w) = ap (λ z. length rel.pairs * z) (ap words r.shape ∙ words-cons count (goal_rest goals (level + 1) rel.goal)) in
       let l = g.light (λ i. words (goal_rest goals (level + 1) i)) in
@@ -239,10 +238,10 @@ module _ {L : Type 0} (table : List (Node L)) where
       twice : (n a w s t : ℕ) → s ≤ n * (2 * (a * w)) → t ≡ a * (n * w) → s ≤ 2 * t
       twice n a w s t h e = omega arith
 
-  pub paid-more : (c number : ℕ) (rel : Rel) (count : ℕ) (list more new : List Candidate) (start : ℕ) (m t : Count) → AreOfRel table c rel number count count more → new ≡ list ++ more
+  pub paid-more : (parts : L → List Amplitude) (c number : ℕ) (rel : Rel) (count : ℕ) (list more new : List Candidate) (start : ℕ) (m t : Count) → AreOfRel parts table c rel number count count more → new ≡ list ++ more
       → t ≡ after (count * length rel.pairs) m → sum_by (λ (x : Candidate). length x.rel.pairs) list + 2 * start ≤ 2 * m.taken
       → sum_by (λ (x : Candidate). length x.rel.pairs) new + 2 * start ≤ 2 * t.taken
-  paid-more c number rel count list more new start m t g e f h =
+  paid-more parts c number rel count list more new start m t g e f h =
       let l = g.light (λ _. 1) in
       let same = sum_by-le-sum_by (λ (x : Candidate). length x.rel.pairs) (λ (x : Candidate). length x.rel.pairs * 1) more (λ x. omega arith) in
       let both = ap (sum_by (λ (x : Candidate). length x.rel.pairs)) e ∙ sum_by-append (λ (x : Candidate). length x.rel.pairs) list more in
@@ -318,24 +317,44 @@ module _ {L : Type 0} (parts : L → List Amplitude) (table : List (Node L)) whe
   fewer : (qs ps : List (ℕ × ℕ)) (word other : List ℕ) → ((p : ℕ × ℕ) → Contains ps p → Contains qs p) → IsRelated parts table qs word other → IsRelated parts table ps word other
   fewer qs ps word other sub h = record { left = h.left; right = h.right; left_nonzero = h.left_nonzero; right_nonzero = h.right_nonzero; same = λ p listed. h.same p (sub p listed) }
 
+  -- the children of pairs have the shapes below
+  child-shapes : (c d n k : ℕ) (left later : List ℕ) (ps : List (ℕ × ℕ)) → c < n → d < k → ((p : ℕ × ℕ) → Contains ps p → HasShape table (n ∷ left) p.0 × HasShape table (k ∷ later) p.1)
+      → (q : ℕ × ℕ) → IsPairChild table c d ps q → HasShape table left q.0 × HasShape table later q.1
+  child-shapes c d n k left later ps less inside shapes q h =
+      let s = shapes h.parent h.listed in
+      let a = children table n left c h.parent.0 s.0 less in
+      let b = children table k later d h.parent.1 s.1 inside in
+      let x : a.0 ≡ h.left = same_element _ c a.0 h.left a.1.here h.left_here in
+      let y : b.0 ≡ h.right = same_element _ d b.0 h.right b.1.here h.right_here in
+      let l = subst (λ (z : ℕ × ℕ). HasShape table left z.0 × HasShape table left z.1) x (a.1.left, a.1.right) in
+      let r = subst (λ (z : ℕ × ℕ). HasShape table later z.0 × HasShape table later z.1) y (b.1.left, b.1.right) in
+      elim h.is [
+        | inl e ↦ subst (λ (z : ℕ × ℕ). HasShape table left z.0 × HasShape table later z.1) (sym e) (l.0, r.0)
+        | inr e ↦ subst (λ (z : ℕ × ℕ). HasShape table left z.0 × HasShape table later z.1) (sym e) (l.1, r.1)
+      ]
+
   -- all relations that the choices give, without repeats
-  pub suffice-each : (c : ℕ) (rest below : ℕ → List ℕ) (m : Macro) (list kept : List Candidate) → IsBelow rest below → AreOfRels table c rest m.rels list → Thins list kept
+  pub suffice-each : (c : ℕ) (rest below : ℕ → List ℕ) (m : Macro) (list kept : List Candidate) → IsBelow rest below → AreOfRels parts table c rest m.rels list → Thins list kept
       → sum_by (λ (x : Candidate). rel_weight below x.rel) list ≤ 2 * sum_by (rel_weight rest) m.rels → Suffice parts table c rest below m kept
   suffice-each c rest below m list kept under r t light = record {
     each = λ j x here. (let o = t.from j x here in r.each o.0 x o.1);
     keeps = λ n left h less. record {
-      related = λ k rel e n' later word other here shape inside w v q.
-          let o = r.offers k rel e n' later here shape inside in
-          let y = t.covers o.place o.candidate o.here in
-          let goal : y.1.rel.goal ≡ rel.goal = y.3.same_goal ∙ o.is.same_goal in
-          record {
-            number = y.0;
-            rel = y.1.rel;
-            here = map-get (λ (x : Candidate). x.rel) kept y.0 y.1 y.2;
-            other = other;
-            is_word = subst (λ sh. IsWord sh other) (sym (ap below goal ∙ under.later rel.goal n' later shape)) v;
-            related = fewer (pair_children_of table c e rel.pairs) y.1.rel.pairs word other (λ p listed. child-listed table c e rel.pairs p (o.is.only p (y.3.pairs p listed))) q;
-          };
+      related = λ k rel e n' later word other here shape inside w v q. elim (r.offers k rel e n' later here shape inside) [
+        | inl o ↦
+            let y = t.covers o.place o.candidate o.here in
+            let goal : y.1.rel.goal ≡ rel.goal = y.3.same_goal ∙ o.is.same_goal in
+            record {
+              number = y.0;
+              rel = y.1.rel;
+              here = map-get (λ (x : Candidate). x.rel) kept y.0 y.1 y.2;
+              other = other;
+              is_word = subst (λ sh. IsWord sh other) (sym (ap below goal ∙ under.later rel.goal n' later shape)) v;
+              related = fewer (pair_children_of table c e rel.pairs) y.1.rel.pairs word other (λ p listed. child-listed table c e rel.pairs p (o.is.only p (y.3.pairs p listed))) q;
+            }
+        | inr hopeless ↦
+            absurd (hopeless.none left later word other
+            (λ p listed. child-shapes c e n n' left later rel.pairs less inside (λ z there. let s = h.pairs k rel z here there in (s.0, subst (λ sh. HasShape table sh z.1) shape s.1)) p (child-of table c e rel.pairs p listed)) w v q)
+      ];
     };
     light = omega (arith, light, t.lighter (λ x. rel_weight below x.rel));
   }

@@ -1,5 +1,6 @@
 -- The relations under a choice, before repeats are left out.
-use Rattle.std.specs.Prelude.{◌≡◌, ℕ, ◌*◌, ◌<◌, ◌≤◌, List, [], ◌∷◌, length, map, sum_by, slice_get, Some, Contains}
+use Rattle.std.specs.Prelude.{◌≡◌, ◌⊎◌, ℕ, ◌*◌, ◌<◌, ◌≤◌, List, [], ◌∷◌, length, map, sum_by}
+use Rattle.std.specs.Prelude.{slice_get, Option, None, Some, Contains}
 use Rattle.aq_ring.specs.Fractions.{Amplitude}
 use Rattle.aq_store.specs.declared.node.Node.{Node}
 use Rattle.aq_store.specs.Nodes.{pairs_at}
@@ -11,6 +12,7 @@ use Rattle.aq_include.specs.declared.step.Stepped.{Stepped}
 use Rattle.aq_include.specs.declared.own.Own.{Own}
 use Rattle.aq_include.specs.Steps.{IsChild, IsPairChild, IsOnly, IsOwn, IsBack, Keeps}
 use Rattle.aq_include.specs.Costs.{rel_weight, weight}
+use Rattle.aq_include.specs.Kinds.{IsHopeless}
 
 -- the relation asks for no more than the other
 pub record IsWithin (r s : Rel) : Type 0 where
@@ -65,12 +67,6 @@ module _ {L : Type 0} (table : List (Node L)) where
     pub here : slice_get list place ≡ Some candidate
     pub is : IsOnly table c rel d candidate.rel
 
-  -- the candidates of one relation
-  pub record AreOfRel (c : ℕ) (rel : Rel) (number count done : ℕ) (list : List Candidate) : Type 0 where
-    pub each : (j : ℕ) (x : Candidate) → slice_get list j ≡ Some x → IsCandidate c rel number count x
-    pub offers : (d : ℕ) → d < done → Offers c rel d list
-    pub light : (f : ℕ → ℕ) → sum_by (λ (x : Candidate). length x.rel.pairs * f x.rel.goal) list ≤ done * (2 * (length rel.pairs * f rel.goal))
-
   -- the candidate is a relation of these under a choice of its goal
   pub record IsStepOfSome (c : ℕ) (rest : ℕ → List ℕ) (rels : List Rel) (x : Candidate) : Type 0 where
     pub rel : Rel
@@ -79,11 +75,6 @@ module _ {L : Type 0} (table : List (Node L)) where
     pub later : List ℕ
     pub shape : rest rel.goal ≡ choices ∷ later
     pub is : IsCandidate c rel x.number choices x
-
-  -- the candidates of the relations
-  pub record AreOfRels (c : ℕ) (rest : ℕ → List ℕ) (rels : List Rel) (list : List Candidate) : Type 0 where
-    pub each : (j : ℕ) (x : Candidate) → slice_get list j ≡ Some x → IsStepOfSome c rest rels x
-    pub offers : (k : ℕ) (rel : Rel) (d n : ℕ) (later : List ℕ) → slice_get rels k ≡ Some rel → rest rel.goal ≡ n ∷ later → d < n → Offers c rel d list
 
   -- a relation with this number leads to the same nodes on both sides under this choice of its goal
   pub record IsOwnOf (c : ℕ) (rest : ℕ → List ℕ) (rels : List Rel) (own : Own) : Type 0 where
@@ -100,6 +91,23 @@ abbrev pub macro_of : List Candidate → Macro
 macro_of list = record { domain = []; rels = map (λ (x : Candidate). x.rel) list }
 
 module _ {L : Type 0} (parts : L → List Amplitude) (table : List (Node L)) where
+  -- a relation under this choice of its goal; none where it relates no words
+  abbrev pub IsOffer : ℕ → Rel → ℕ → ℕ → Option Candidate → Type 0
+  IsOffer c rel number d None = IsHopeless parts table c rel d
+  IsOffer c rel number d (Some x) = IsCandidateAt table c rel number d x
+
+  -- the candidates of one relation: one for each choice of its goal, but for those that relate no words
+  pub record AreOfRel (c : ℕ) (rel : Rel) (number count done : ℕ) (list : List Candidate) : Type 0 where
+    pub each : (j : ℕ) (x : Candidate) → slice_get list j ≡ Some x → IsCandidate table c rel number count x
+    pub offers : (d : ℕ) → d < done → Offers table c rel d list ⊎ IsHopeless parts table c rel d
+    pub light : (f : ℕ → ℕ) → sum_by (λ (x : Candidate). length x.rel.pairs * f x.rel.goal) list ≤ done * (2 * (length rel.pairs * f rel.goal))
+
+  -- the candidates of the relations
+  pub record AreOfRels (c : ℕ) (rest : ℕ → List ℕ) (rels : List Rel) (list : List Candidate) : Type 0 where
+    pub each : (j : ℕ) (x : Candidate) → slice_get list j ≡ Some x → IsStepOfSome table c rest rels x
+    pub offers : (k : ℕ) (rel : Rel) (d n : ℕ) (later : List ℕ) → slice_get rels k ≡ Some rel → rest rel.goal ≡ n ∷ later
+        → d < n → Offers table c rel d list ⊎ IsHopeless parts table c rel d
+
   -- the candidates are relations under choice c, and nothing of what the macro says is lost with them alone
   pub record Suffice (c : ℕ) (rest below : ℕ → List ℕ) (m : Macro) (list : List Candidate) : Type 0 where
     pub each : (j : ℕ) (x : Candidate) → slice_get list j ≡ Some x → IsStepOfSome table c rest m.rels x

@@ -4,6 +4,7 @@
 
 mod end;
 mod inclusion;
+mod kinds;
 mod own;
 mod pay;
 mod places;

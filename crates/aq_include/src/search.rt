@@ -7,9 +7,11 @@ ghost use Rattle.aq_cert.specs.Held.{IsHeld};
 ghost use Rattle.aq_cert.specs.Placed.{StandsAt, AllStand};
 ghost use Rattle.aq_include.specs.Costs.{Takes, IsCause, weight, size, budget, turn_budget};
 ghost use Rattle.aq_include.specs.Ends.{StopsWide};
+ghost use Rattle.aq_include.specs.Kinds.{AreKinds};
 ghost use Rattle.aq_include.specs.Search.{IsTable, Finds, Follows, GrowsWith, GrowsBy};
 
 use crate::end::find_end;
+use crate::kinds::Kinds;
 use crate::step::step;
 use crate::table::Table;
 use aq_cert::{Edge, Macro};
@@ -107,6 +109,7 @@ fn finish<L: Label>(
 pub(crate) fn visit<L: Label>(
     store: &Store<L>,
     alloc: Global,
+    kinds: &Kinds,
     left: &Lsta,
     goals: &[Lsta],
     table: &mut Table,
@@ -114,6 +117,7 @@ pub(crate) fn visit<L: Label>(
     here: Macro,
     steps: &mut Steps,
 ) -> Result<Found, Stop<L>>
+    requires kinds { AreKinds L.parts store.now kinds.now }
     requires few { length left.now.shape.items < 2 ^ 32 }
     requires level { level ≤ length left.now.shape.items }
     requires here { IsOfLevel store.now (drop level left.now.shape.items) (goal_rest goals.now level) here }
@@ -143,7 +147,7 @@ pub(crate) fn visit<L: Label>(
     let mut edges = Items::new(alloc);
     for choice in 0..left.shape[level as usize] {
         match follow(
-            store, alloc, left, goals, table, level, &here, choice, steps,
+            store, alloc, kinds, left, goals, table, level, &here, choice, steps,
         )? {
             Followed::Leads(edge) => {
                 let Ok(()) = edges.push(edge) else {
@@ -164,6 +168,7 @@ pub(crate) fn visit<L: Label>(
 fn follow<L: Label>(
     store: &Store<L>,
     alloc: Global,
+    kinds: &Kinds,
     left: &Lsta,
     goals: &[Lsta],
     table: &mut Table,
@@ -172,6 +177,7 @@ fn follow<L: Label>(
     choice: u32,
     steps: &mut Steps,
 ) -> Result<Followed, Stop<L>>
+    requires kinds { AreKinds L.parts store.now kinds.now }
     requires few { length left.now.shape.items < 2 ^ 32 }
     requires level { level < length left.now.shape.items }
     requires choice { choice < slice_index (drop level left.now.shape.items) 0 }
@@ -193,10 +199,11 @@ fn follow<L: Label>(
         goals.now level) here.now)) steps.old e) }
 {
     let _taken = steps.taken();
-    let stepped = step(store, alloc, here, goals, level, choice, steps)?;
+    let stepped = step(store, alloc, kinds, here, goals, level, choice, steps)?;
     match visit(
         store,
         alloc,
+        kinds,
         left,
         goals,
         table,

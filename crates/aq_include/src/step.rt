@@ -13,8 +13,10 @@ ghost use Rattle.aq_include.specs.declared.places.Opened.{Opened};
 ghost use Rattle.aq_include.specs.Members.{HasSame};
 ghost use Rattle.aq_include.specs.Steps.{opened_children_of, IsOpened};
 ghost use Rattle.aq_include.specs.Candidates.{AreChildren, IsCandidateAt, AreOfRel, AreOfRels, HasRel, IsStepped};
-ghost use Rattle.aq_include.specs.Candidates.{Thins, IsOwnOf, Suffice};
+ghost use Rattle.aq_include.specs.Candidates.{IsOffer, Thins, IsOwnOf, Suffice};
+ghost use Rattle.aq_include.specs.Kinds.{AreKinds};
 
+use crate::kinds::{Kinds, is_hopeless};
 use crate::own::{Own, find_own};
 use crate::pay::pay;
 use crate::places::{
@@ -120,19 +122,52 @@ fn step_choice<L: Label>(
     })
 }
 
-/// A relation under a choice of the left, for each choice of its goal.
+/// A relation under a choice of the left and one of its goal; none where it would relate no words. Its pairs are
+/// counted all the same.
+fn step_offer<L: Label>(
+    store: &Store<L>,
+    alloc: Global,
+    kinds: &Kinds,
+    rel: &Rel,
+    opened: &[Opened],
+    number: u32,
+    choice: u32,
+    steps: &mut Steps,
+) -> Result<Option<Candidate>, Stop<L>>
+    requires kinds { AreKinds L.parts store.now kinds.now }
+    requires within { (o : Opened) → Contains opened.now o → choice < length (pairs_at store.now o.right) }
+    requires count { length opened.now ≡ length rel.now.pairs }
+    ensures offer { IfOk result (λ found. (c : ℕ) → AllZip (IsOpened store.now c) rel.now.pairs opened.now →
+        IsOffer L.parts store.now c rel.now number choice found) }
+    ensures paid { OnOk result (steps.new ≡ after (length rel.now.pairs) steps.old) }
+    ensures wide { IfErr result IsNotWide }
+    ensures takes { Takes (length rel.now.pairs) steps.old steps.new }
+    ensures spent { IfErr result (λ e. IsCause (length rel.now.pairs) steps.old e) }
+{
+    if is_hopeless(store, kinds, opened, choice) {
+        pay::<L>(steps, opened.len())?;
+        return Ok(None);
+    }
+    let found = step_choice(store, alloc, rel, opened, number, choice, steps)?;
+    Ok(Some(found))
+}
+
+/// A relation under a choice of the left, for each choice of its goal that may relate words.
 fn step_rel<L: Label>(
     store: &Store<L>,
     alloc: Global,
+    kinds: &Kinds,
     rel: &Rel,
     number: u32,
     count: u32,
     choice: u32,
     steps: &mut Steps,
 ) -> Result<Vec<Candidate>, Stop<L>>
-    requires { (p : ℕ × ℕ) → Contains rel.now.pairs p → (choice < length (pairs_at store.now p.0)) × (count ≤ length
-        (pairs_at store.now p.1)) }
-    ensures candidates { IfOk result (λ list. AreOfRel store.now choice rel.now number count count list.items) }
+    requires kinds { AreKinds L.parts store.now kinds.now }
+    requires within { (p : ℕ × ℕ) → Contains rel.now.pairs p → (choice < length (pairs_at store.now p.0)) × (count ≤
+        length (pairs_at store.now p.1)) }
+    ensures candidates { IfOk result (λ list. AreOfRel L.parts store.now choice rel.now number count count
+        list.items) }
     ensures paid { OnOk result (steps.new ≡ after (count * length rel.now.pairs) steps.old) }
     ensures wide { IfErr result IsNotWide }
     ensures takes { Takes (count * length rel.now.pairs) steps.old steps.new }
@@ -144,18 +179,21 @@ fn step_rel<L: Label>(
     };
     let mut list = Vec::new(alloc);
     for goal_choice in 0..count {
-        let next = step_choice(
+        let found = step_offer(
             store,
             alloc,
+            kinds,
             rel,
             opened.as_slice(),
             number,
             goal_choice,
             steps,
         )?;
-        let Ok(()) = list.push(next) else {
-            return Err(Stop::Memory);
-        };
+        if let Some(next) = found {
+            let Ok(()) = list.push(next) else {
+                return Err(Stop::Memory);
+            };
+        }
     }
     Ok(list)
 }
@@ -211,20 +249,22 @@ pub(crate) fn goal_choices(goals: &[Lsta], goal: u32, level: u32) -> u32
     goals[goal as usize].shape[level as usize]
 }
 
-/// The relations of a macro under a choice of the left, for each choice of their goals.
+/// The relations of a macro under a choice of the left, for each choice of their goals that may relate words.
 fn step_rels<L: Label>(
     store: &Store<L>,
     alloc: Global,
+    kinds: &Kinds,
     here: &Macro,
     goals: &[Lsta],
     level: u32,
     choice: u32,
     steps: &mut Steps,
 ) -> Result<Vec<Candidate>, Stop<L>>
-    requires { (left : List ℕ) × IsOfLevel store.now left (goal_rest goals.now level) here.now × (choice < slice_index
-        left 0) }
-    ensures candidates { IfOk result (λ list. AreOfRels store.now choice (goal_rest goals.now level) here.now.rels
-        list.items) }
+    requires kinds { AreKinds L.parts store.now kinds.now }
+    requires here { (left : List ℕ) × IsOfLevel store.now left (goal_rest goals.now level) here.now × (choice <
+        slice_index left 0) }
+    ensures candidates { IfOk result (λ list. AreOfRels L.parts store.now choice (goal_rest goals.now level)
+        here.now.rels list.items) }
     ensures light { IfOk result (λ list. sum_by (λ x. rel_weight (goal_rest goals.now (level + 1)) x.rel) list.items
         ≤ 2 *
         sum_by (rel_weight (goal_rest goals.now level)) here.now.rels) }
@@ -244,7 +284,7 @@ fn step_rels<L: Label>(
             return Err(Stop::Memory);
         };
         let count = goal_choices(goals, rel.goal, level);
-        let mut more = step_rel(store, alloc, rel, short, count, choice, steps)?;
+        let mut more = step_rel(store, alloc, kinds, rel, short, count, choice, steps)?;
         let Ok(()) = list.append(&mut more) else {
             return Err(Stop::Memory);
         };
@@ -299,14 +339,16 @@ fn thin(alloc: Global, list: Vec<Candidate>) -> Result<Vec<Candidate>, AllocErro
 fn step_each<L: Label>(
     store: &Store<L>,
     alloc: Global,
+    kinds: &Kinds,
     here: &Macro,
     goals: &[Lsta],
     level: u32,
     choice: u32,
     steps: &mut Steps,
 ) -> Result<Vec<Candidate>, Stop<L>>
-    requires { (left : List ℕ) × IsOfLevel store.now left (goal_rest goals.now level) here.now × (choice < slice_index
-        left 0) }
+    requires kinds { AreKinds L.parts store.now kinds.now }
+    requires here { (left : List ℕ) × IsOfLevel store.now left (goal_rest goals.now level) here.now × (choice <
+        slice_index left 0) }
     ensures suffice { IfOk result (λ list. Suffice L.parts store.now choice (goal_rest goals.now level) (goal_rest
         goals.now (level + 1)) here.now list.items) }
     ensures paid { IfOk result (λ list. sum_by (λ x. length x.rel.pairs) list.items + 2 * steps.old.taken ≤ 2 *
@@ -319,7 +361,7 @@ fn step_each<L: Label>(
     if let Some(own) = find_own(store, here, goals, level, choice) {
         return step_own(store, alloc, here, goals, level, choice, own, steps);
     }
-    let list = step_rels(store, alloc, here, goals, level, choice, steps)?;
+    let list = step_rels(store, alloc, kinds, here, goals, level, choice, steps)?;
     let Ok(kept) = thin(alloc, list) else {
         return Err(Stop::Memory);
     };
@@ -348,14 +390,16 @@ fn gather(alloc: Global, domain: Items<u32>, list: Vec<Candidate>) -> Result<Ste
 pub(crate) fn step<L: Label>(
     store: &Store<L>,
     alloc: Global,
+    kinds: &Kinds,
     here: &Macro,
     goals: &[Lsta],
     level: u32,
     choice: u32,
     steps: &mut Steps,
 ) -> Result<Stepped, Stop<L>>
-    requires { (left : List ℕ) × IsOfLevel store.now left (goal_rest goals.now level) here.now × (choice < slice_index
-        left 0) }
+    requires kinds { AreKinds L.parts store.now kinds.now }
+    requires here { (left : List ℕ) × IsOfLevel store.now left (goal_rest goals.now level) here.now × (choice <
+        slice_index left 0) }
     ensures stepped { IfOk result (λ s. IsStepped L.parts store.now choice (goal_rest goals.now level) (goal_rest
         goals.now (level + 1)) here.now s) }
     ensures size { IfOk result (λ s. size s.to + 2 * steps.old.taken ≤ 2 * steps.new.taken) }
@@ -365,7 +409,7 @@ pub(crate) fn step<L: Label>(
 {
     let _taken = steps.taken();
     let domain = step_domain(store, alloc, here.domain.as_slice(), choice, steps)?;
-    let list = step_each(store, alloc, here, goals, level, choice, steps)?;
+    let list = step_each(store, alloc, kinds, here, goals, level, choice, steps)?;
     let Ok(stepped) = gather(alloc, domain, list) else {
         return Err(Stop::Memory);
     };

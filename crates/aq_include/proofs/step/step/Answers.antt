@@ -7,7 +7,7 @@ use Rattle.aq_include.proofs.step.step.Goals as goal
 
 pub step_domain-requires : goal.step_domain-requires
 step_domain-requires g c = λ x listed.
-    domain-pairs c.args.store.now (goal_rest c.args.goals.now c.args.level) c.args.choice c.requires.0 c.args.here.now c.requires.1 c.requires.2 x
+    domain-pairs c.args.store.now (goal_rest c.args.goals.now c.args.level) c.args.choice c.requires.here.0 c.args.here.now c.requires.here.1 c.requires.here.2 x
     (subst (λ (l : List ℕ). Contains l x) c.as_slice.ensures listed)
 
 pub returns-clause-stepped : goal.returns-clause-stepped
