@@ -23,44 +23,15 @@ pub(crate) fn tidy_places(list: Vec<u32>) -> Items<u32>
     Items::from_vec(list)
 }
 
-/// Whether the pair is the last that was kept.
-fn is_last(last: Option<(u32, u32)>, pair: (u32, u32)) -> bool
-    ensures { IsTrue result → last ≡ Some pair }
-{
-    match last {
-        Some((left, right)) => left == pair.0 && right == pair.1,
-        None => false,
-    }
-}
-
-/// The pairs without neighbours that are equal.
-fn without_repeats(alloc: Global, pairs: &[(u32, u32)]) -> Result<Vec<(u32, u32)>, AllocError>
-    ensures same { IfOk result (λ list. HasSame list.items pairs.now) }
-    ensures short { IfOk result (λ list. length list.items ≤ length pairs.now) }
-{
-    let mut kept = Vec::new(alloc);
-    let mut last = None;
-    for pair in pairs {
-        if !is_last(last, *pair) {
-            kept.push(*pair)?;
-            last = Some(*pair);
-        }
-    }
-    Ok(kept)
-}
-
 /// The same pairs in order, each once.
-pub(crate) fn tidy_pairs(
-    alloc: Global,
-    list: Vec<(u32, u32)>,
-) -> Result<Items<(u32, u32)>, AllocError>
-    ensures same { IfOk result (λ kept. HasSame kept list.items) }
-    ensures short { IfOk result (λ kept. length kept ≤ length list.items) }
+pub(crate) fn tidy_pairs(list: Vec<(u32, u32)>) -> Items<(u32, u32)>
+    ensures same { HasSame result list.items }
+    ensures short { length result ≤ length list.items }
 {
     let mut list = list;
     list.sort_unstable();
-    let kept = without_repeats(alloc, list.as_slice())?;
-    Ok(Items::from_vec(kept))
+    list.dedup();
+    Items::from_vec(list)
 }
 
 /// The children of places under a choice.

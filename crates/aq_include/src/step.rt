@@ -86,10 +86,7 @@ fn step_pairs<L: Label>(
     let Ok(list) = pair_children(store, alloc, pairs, choice) else {
         return Err(Stop::Memory);
     };
-    let Ok(list) = tidy_pairs(alloc, list) else {
-        return Err(Stop::Memory);
-    };
-    Ok(list)
+    Ok(tidy_pairs(list))
 }
 
 /// A relation under a choice of the left and one of its goal.
