@@ -1,5 +1,5 @@
 //! Nodes whose vectors are all zero, and nodes of which no vector is.
-ghost use Rattle.std.specs.Prelude.{◌≡◌, ◌<◌, ◌⊎◌, ℕ, List, ◌∷◌, length, drop, slice_get, Some, OnOk, IfOk, IsTrue};
+ghost use Rattle.std.specs.Prelude.{◌≡◌, ◌<◌, ◌⊎◌, ℕ, List, ◌∷◌, length, drop, OnOk, IfOk, IsTrue};
 ghost use Rattle.std.specs.Prelude.{Contains, cond, nat_eq};
 ghost use Rattle.aq_store.specs.Nodes.{FitsStore, HasShape, pairs_at};
 ghost use Rattle.aq_cert.specs.Goals.{FitTogether};

@@ -1,6 +1,6 @@
 //! Lists of places in order, each once.
-ghost use Rattle.std.specs.Prelude.{◌≡◌, ◌≤◌, ◌<◌, ◌↔◌, ◌+◌, ◌*◌, ◌++◌, ℕ, List, length, Contains, IfOk, IfSome};
-ghost use Rattle.std.specs.Prelude.{OnOk, slice_get, Some, IsTrue};
+ghost use Rattle.std.specs.Prelude.{◌≡◌, ◌≤◌, ◌<◌, ◌↔◌, ◌+◌, ◌*◌, ◌++◌, ℕ, List, length, Contains, IfOk};
+ghost use Rattle.std.specs.Prelude.{IsTrue};
 ghost use Rattle.aq_store.specs.Nodes.{pairs_at};
 ghost use Rattle.std.specs.List.{AllZip};
 ghost use Rattle.aq_include.specs.declared.places.Opened.{Opened};
