@@ -9,11 +9,12 @@ use Rattle.std.proofs.lemmas.List.Sums.{count_by-le-length, length-filter, sum_b
 use Rattle.std.proofs.lemmas.Option.{get_or_from_slice_get, slice_get_within}
 use Rattle.aq_ring.specs.Fractions.{Amplitude}
 use Rattle.aq_prog.specs.declared.program.Program.{Program}
-use Rattle.aq_sets.specs.Sizes.{size_of}
+use Rattle.aq_sets.specs.Sizes.{place, size_of}
 use Rattle.aq_sets.specs.Vectors.{vectors_of}
 use Rattle.aq_sets.specs.declared.sets.Sets.{Sets}
 use Rattle.aq_sets.proofs.SizeLaws.{has_count, has_shape}
 use Rattle.aq_store.specs.Count.{Count}
+use Rattle.aq_store.specs.Nodes.{vector_of}
 use Rattle.aq_store.specs.Words.{IsWord, words}
 use Rattle.aq_store.specs.declared.lsta.Lsta.{Lsta}
 use Rattle.aq_store.specs.declared.store.Stop.{Stop}
@@ -26,7 +27,7 @@ use Rattle.aq_include.specs.declared.inclusion.Answer.{Answer}
 use Rattle.aq_include.specs.declared.inclusion.Answer.TheVariants as answer
 use Rattle.aq_obligations.specs.Asking.{meaning_of}
 use Rattle.aq_obligations.specs.Bound.{IsBoundCase}
-use Rattle.aq_obligations.specs.Claims.{are_met}
+use Rattle.aq_obligations.specs.Claims.{ClaimCase, are_met}
 use Rattle.aq_obligations.specs.Enough.{words_of}
 use Rattle.aq_obligations.specs.Wide.{WideComparison}
 use Rattle.aq_obligations.specs.Worlds.{IsKept, Partial, filled, worlds}
@@ -46,7 +47,7 @@ use Rattle.aq_decide.specs.Goals.{AreBuilt, met_cases}
 use Rattle.aq_decide.specs.Judging.{IsPaidWithin, Tells}
 use Rattle.aq_decide.specs.Kept.{AreWorlds, IsWorld, alone}
 use Rattle.aq_decide.specs.Stops.{GivesUpFor}
-use Rattle.aq_decide.proofs.Elements.{filter_out, get_contains, zip_left, zip_length, zip_push, zip_right}
+use Rattle.aq_decide.proofs.Elements.{filter_out, get_at, get_contains, some_is, zip_left, zip_length, zip_push, zip_right}
 use Rattle.aq_decide.proofs.KeptLemmas.{cut, escape_of, kept_of, wide_of}
 
 -- ---- what a call gives
@@ -277,9 +278,22 @@ module _ (p : Program) (s : Sets) (o : Obligation) (table : Table) where
       } in
       subst (λ (l : List Cert). AreJudged j ws a c l) (sym en) (subst (λ (i : ℕ). AreJudged i ws a c (certs ++ cert ∷ [])) (sym ej) here)
 
-  pub judged_escape : (ws : List World) (k : ℕ) (w : World) (u : meant.World) (a b : Count) (certs : List Cert) (word : List ℕ) → slice_get (worlds (meaning_of p s o)) k ≡ Some u → AreJudged k ws a b certs
-      → (i : IsWorld s o.from table w u) → Tells p s o i.bound u (answer.Escapes word) → IsFirstEscape p s o w word
-  judged_escape ws k w u a b certs word at h i t =
+  -- the automaton of the world's case
+  source_of : (sources : List Lsta) (w : World) (u : meant.World) → AreBuilt s o.from table sources → (i : IsWorld s o.from table w u)
+      → (made : Lsta) × (slice_get sources w.case ≡ Some made) × IsBuilt s.exprs i.bound.set table made
+  source_of sources w u built i = zip_left (λ (c : BoundCase) (made : Lsta). IsBuilt s.exprs c.set table made) o.from sources w.case i.bound built i.number
+
+  pub source_there : (sources : List Lsta) (w : World) (u : meant.World) → AreBuilt s o.from table sources → IsWorld s o.from table w u → w.case < length sources
+  source_there sources w u built i = let z = source_of sources w u built i in slice_get_within sources w.case z.0 z.1
+
+  pub source_built : (sources : List Lsta) (w : World) (u : meant.World) (made : Lsta) → AreBuilt s o.from table sources → made ≡ get_or sources w.case made → (i : IsWorld s o.from table w u) → IsBuilt s.exprs i.bound.set table made
+  source_built sources w u made built e i =
+      let z = source_of sources w u built i in
+      subst (λ (l : Lsta). IsBuilt s.exprs i.bound.set table l) (some_is z.0 made (sym z.1 ∙ get_at sources w.case made (source_there sources w u built i) e)) z.2
+
+  pub judged_escape : (ws : List World) (k : ℕ) (w : World) (u : meant.World) (a b : Count) (certs : List Cert) (word : List ℕ) (made : Lsta) → slice_get (worlds (meaning_of p s o)) k ≡ Some u → AreJudged k ws a b certs
+      → (i : IsWorld s o.from table w u) → IsBuilt s.exprs i.bound.set table made → Tells p s o i.bound u (answer.Escapes word) → IsFirstEscape p s o w word (vector_of table made word)
+  judged_escape ws k w u a b certs word made at h i built t =
       let us = worlds (meaning_of p s o) in
       record {
         earlier = take k us;
@@ -295,6 +309,7 @@ module _ (p : Program) (s : Sets) (o : Obligation) (table : Table) where
         outcomes = i.is.outcomes;
         is_word = t.0;
         escape = t.1;
+        state_is = ap (λ (c : ClaimCase). slice_get c.vectors (place s.exprs i.bound.set word)) i.is.case ∙ built.words word t.0;
       }
 
   pub judged_stops : (ws : List World) (k : ℕ) (w : World) (a b : Count) (certs : List Cert) (W : Type 0) (why : Stop Amplitude) → k < length ws → w ≡ get_or ws k w → AreJudged k ws a b certs

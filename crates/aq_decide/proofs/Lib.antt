@@ -10,6 +10,7 @@ pub mod FitLemmas
 pub mod FewLemmas
 pub mod SumLemmas
 pub mod StartLemmas
+pub mod ReadingLemmas
 pub mod SplitLemmas
 pub mod BuildLemmas
 pub mod CaseLemmas

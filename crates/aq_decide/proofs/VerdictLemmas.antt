@@ -109,8 +109,8 @@ module _ (p : Program) (s : Sets) (o : Obligation) (asked : CanBeDecided p s o) 
 
   pub decides_of : (t u : Table) (goals sources : List Lsta) → AreMade s o.goal.cases t goals → AreMade s o.from u sources → (WideGate (meaning_of p s o) → ⊥) → (d : Decision) → Judges p s o d → Decides p s o d
   decides_of t u goals sources g f gates (decision.Holds certs) h = record { certified = h.0; kept = h.1; no_wide_gate = gates; no_wide_set = no_wide_set t u goals sources g f }
-  decides_of t u goals sources g f gates (decision.Escapes world word) h = h
+  decides_of t u goals sources g f gates (decision.Escapes world word state) h = h
 
 pub short_of : (cases : ℕ) (before now : Count) (d : Decision) → IsPaidFor cases before now d → IsShort cases now d
 short_of cases before now (decision.Holds certs) h = omega (arith, h)
-short_of cases before now (decision.Escapes world word) h = tt
+short_of cases before now (decision.Escapes world word state) h = tt

@@ -64,8 +64,8 @@ pub record IsEscapeAt (o : Meaning) (w : meant.World) (place : ℕ) : Type 0 whe
   pub escapes : Holds o.goal (filled w.bits) escaping → ⊥
 
 -- The first world with a vector that escapes has this case, these bits and these outcomes, and the first such vector is
--- at the word's place.
-pub record IsFirstEscape (p : Program) (s : Sets) (o : Obligation) (w : World) (word : List ℕ) : Type 0 where
+-- at the word's place, as this state is among the vectors of the case.
+pub record IsFirstEscape (p : Program) (s : Sets) (o : Obligation) (w : World) (word : List ℕ) (state : List Amplitude) : Type 0 where
   pub earlier : List meant.World
   pub world : meant.World
   pub later : List meant.World
@@ -79,14 +79,15 @@ pub record IsFirstEscape (p : Program) (s : Sets) (o : Obligation) (w : World) (
   pub outcomes : world.outcomes ≡ w.outcomes
   pub is_word : IsWord (size_of s.exprs case.set).shape word
   pub escape : IsEscapeAt (meaning_of p s o) world (place s.exprs case.set word)
+  pub state_is : slice_get world.case.vectors (place s.exprs case.set word) ≡ Some state
 
 -- what is decided
 abbrev pub Decides : Program → Sets → Obligation → Decision → Type 0
 Decides p s o (decision.Holds certs) = AllHold p s o certs
-Decides p s o (decision.Escapes world word) = IsFirstEscape p s o world word
+Decides p s o (decision.Escapes world word state) = IsFirstEscape p s o world word state.items
 
 -- the domain members and the pairs of all certificates are together at most twice the steps that were taken, and for
 -- each certificate one and the number of the goal's cases
 abbrev pub IsShort : ℕ → Count → Decision → Type 0
 IsShort cases now (decision.Holds certs) = sum_by cert_size certs ≤ 2 * now.taken + length certs * (1 + cases)
-IsShort cases now (decision.Escapes world word) = Unit {0}
+IsShort cases now (decision.Escapes world word state) = Unit {0}

@@ -29,13 +29,13 @@ Tells p s o c u (answer.Escapes word) =
 abbrev pub Judges : Program → Sets → Obligation → Decision → Type 0
 Judges p s o (decision.Holds certs) =
     AllZip (IsCertified s o) (worlds (meaning_of p s o)) certs × AreKept (meaning_of p s o) (worlds (meaning_of p s o))
-Judges p s o (decision.Escapes world word) = IsFirstEscape p s o world word
+Judges p s o (decision.Escapes world word state) = IsFirstEscape p s o world word state.items
 
 -- the steps that were taken meanwhile pay for the certificates
 abbrev pub IsPaidFor : ℕ → Count → Count → Decision → Type 0
 IsPaidFor cases before now (decision.Holds certs) =
     sum_by cert_size certs + 2 * before.taken ≤ 2 * now.taken + length certs * (1 + cases)
-IsPaidFor cases before now (decision.Escapes world word) = Unit {0}
+IsPaidFor cases before now (decision.Escapes world word state) = Unit {0}
 
 -- the same of one certificate
 abbrev pub IsPaidWithin : ℕ → Count → Count → Answer → Type 0

@@ -4,6 +4,7 @@ pub mod Starting
 pub mod Goals
 pub mod Budgets
 pub mod Stops
+pub mod Reading
 pub mod Splitting
 pub mod Playing
 pub mod Deciding

@@ -14,6 +14,7 @@ ghost use Rattle.aq_decide.specs.Stops.{GivesUpFor};
 
 use crate::decision::Decision;
 use crate::goals::goals_in;
+use crate::reading::vector_of;
 use aq_correct::laws;
 use aq_include::{Answer, include};
 use aq_obligations::Obligation;
@@ -60,8 +61,8 @@ fn judge_world(
 }
 
 /// Judges the obligation's worlds, in order: either none of their vectors escapes, with a certificate for each world;
-/// or there is a first world with a vector that does, and its least word whose vector does. `goals` are the automata of
-/// the goal's cases.
+/// or there is a first world with a vector that does, its least word whose vector does, and the state from which that
+/// comes. `goals` are the automata of the goal's cases, and `sources` those of the assumption's.
 ///
 /// `WideParts` comes only where an entry of an end and one of a goal's vector for its bits have a product that doesn't
 /// fit, `Wide` never, and `Spent` only where `judge_budget` is more steps than were left.
@@ -72,12 +73,14 @@ pub fn judge_worlds(
     sets: &Sets,
     obligation: &Obligation,
     goals: &[Lsta],
+    sources: &[Lsta],
     worlds: Vec<World>,
     steps: &mut Steps,
 ) -> Result<Decision, Stop<Amp>>
     requires asked { CanBeDecided program.now sets.now obligation.now }
     requires few { length goals.now < 2 ^ 32 }
     requires built { AreBuilt sets.now obligation.now.goal.cases store.now goals.now }
+    requires sources { AreBuilt sets.now obligation.now.from store.now sources.now }
     requires worlds { let those = meant.worlds (meaning_of program.now sets.now obligation.now) in
         AreWorlds sets.now obligation.now.from store.now worlds.items those }
     ensures judges { IfOk result (λ d. Judges program.now sets.now obligation.now d) }
@@ -98,7 +101,13 @@ pub fn judge_worlds(
                     return Err(Stop::Memory);
                 };
             }
-            Answer::Escapes(word) => return Ok(Decision::Escapes { world, word }),
+            Answer::Escapes(word) => {
+                let source = &sources[world.case as usize];
+                let Ok(state) = vector_of(alloc, store, source, word.as_slice()) else {
+                    return Err(Stop::Memory);
+                };
+                return Ok(Decision::Escapes { world, word, state });
+            }
         }
     }
     Ok(Decision::Holds(certs))

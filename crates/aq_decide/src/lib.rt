@@ -11,6 +11,7 @@ mod decision;
 mod goals;
 mod judge;
 mod known;
+mod reading;
 mod split;
 mod spread;
 mod start;

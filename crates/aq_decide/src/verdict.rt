@@ -20,7 +20,8 @@ use std::alloc::Global;
 
 /// Decides whether the obligation is true. Either each vector of each of its worlds is zero or a nonzero multiple of
 /// one that the goal allows, with a valid certificate for each world, in order; or there is a first world with a vector
-/// that isn't, and a word of it whose vector isn't and whose place is the least of such vectors.
+/// that isn't, a word of it whose vector isn't and whose place is the least of such vectors, and the state from which
+/// that vector comes.
 ///
 /// `Spent` comes only where `enough` is more steps than are left. `Wide` and `WideParts` come only where the obligation
 /// is wide, and an obligation that holds has neither a wide gate nor a wide product in its sets. `Memory` may come at
@@ -63,6 +64,7 @@ pub fn decide(
         sets,
         obligation,
         goals.as_slice(),
+        sources.as_slice(),
         worlds,
         steps,
     )

@@ -51,6 +51,15 @@ judge_worlds-requires-clause-built c =
     subst (λ (l : List Lsta). AreBuilt s cases c.all_worlds.new.store l) (sym c.as_slice-3.ensures.value)
     (built_extends s c.automata-2.new.store c.all_worlds.new.store c.all_worlds.ensures.grows.keeps cases c.in_ok-goals.goals.items later)
 
+pub judge_worlds-requires-clause-sources : goal.judge_worlds-requires-clause-sources
+judge_worlds-requires-clause-sources c =
+    let s = c.args.sets.now in
+    let cases = c.args.obligation.now.from in
+    let made = subst (λ (l : List BoundCase). AreMade s l c.automata-2.new.store c.in_ok-sources.sources.items) c.as_slice.ensures c.in_ok-sources.ensures.made in
+    let built = built_of s c.automata-2.new.store cases c.in_ok-sources.sources.items made in
+    subst (λ (l : List Lsta). AreBuilt s cases c.all_worlds.new.store l) (sym c.as_slice-4.ensures.value)
+    (built_extends s c.automata-2.new.store c.all_worlds.new.store c.all_worlds.ensures.grows.keeps cases c.in_ok-sources.sources.items built)
+
 pub returns-in_err-goals-clause-steps : goal.returns-in_err-goals-clause-steps
 returns-in_err-goals-clause-steps c =
     let first = subst (λ (l : List BoundCase). Grows (build_all c.args.sets.now l) c.new-store.result c.automata.new.store c.args.steps.now c.automata.new.steps) c.as_slice-cases.ensures c.automata.ensures.grows in
