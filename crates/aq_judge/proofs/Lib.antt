@@ -1,7 +1,4 @@
-pub mod SearchLaws
-pub mod CompareLaws
-pub mod ListingLaws
 pub mod RunLaws
 pub mod ShowLaws
-pub mod JudgeLaws
+pub mod VerdictLaws
 mod ExampleLaws

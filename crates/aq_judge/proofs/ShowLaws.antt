@@ -1,107 +1,116 @@
 -- What is shown of a world's vector is of the run that leads to it.
-use Rattle.std.proofs.Common.{◌≡◌, ℕ, ◌<◌, Bool, List, Contains, length, Some, refl, ap, sym, ◌∙◌, subst, arith, inl}
+use Rattle.std.proofs.Common.{◌≡◌, ℕ, ◌^◌, Bool, List, length, ap, sym, ◌∙◌, subst, inl}
 use Rattle.std.specs.Prelude.{slice_get}
-use Rattle.std.proofs.lemmas.List.{length-map}
 use Rattle.std.proofs.lemmas.List.Elements.{All-contains}
-use Rattle.std.proofs.lemmas.Option.{slice_get_within}
+use Rattle.aq_ring.specs.Fractions.{Amplitude}
 use Rattle.aq_ring.specs.Vectors.{IsZeroVector}
 use Rattle.aq_prog.specs.Runs.{State}
 use Rattle.aq_prog.specs.declared.program.Program.{Program}
 use Rattle.aq_prog.specs.declared.stmt.Stmt.{Stmt}
-use Rattle.aq_sets.specs.Vectors.{vectors_of, products_of}
+use Rattle.aq_sets.specs.Laws.{VectorLaws}
+use Rattle.aq_sets.specs.Sizes.{place, size_of}
+use Rattle.aq_sets.specs.Vectors.{vectors_of}
 use Rattle.aq_sets.specs.declared.sets.Sets.{Sets}
 use Rattle.aq_plain.specs.Replaying.{ArePlayable, start_of}
-use Rattle.aq_plain.specs.Vectors.{StateVector}
+use Rattle.aq_plain.specs.Vectors.{IsStateVector, StateVector}
 use Rattle.aq_plain.specs.declared.replay_stop.Played.{Played as Reached}
-use Rattle.aq_obligations.specs.Asking.{case_of, meaning_of}
+use Rattle.aq_obligations.specs.Asking.{meaning_of}
 use Rattle.aq_obligations.specs.Bound.{IsBoundCase}
-use Rattle.aq_obligations.specs.Obligations.{IsStart}
+use Rattle.aq_obligations.specs.Claims.{ClaimCase}
+use Rattle.aq_obligations.specs.Obligations.{IsCounterexample}
 use Rattle.aq_obligations.specs.Wide.{IsWide}
-use Rattle.aq_obligations.specs.Worlds.{filled, worlds}
-use Rattle.aq_obligations.specs.declared.bound.BoundCase.{BoundCase}
+use Rattle.aq_obligations.specs.Worlds.{IsRefutation, filled}
 use Rattle.aq_obligations.specs.declared.bound.Obligation.{Obligation}
-use Rattle.aq_correct.specs.WorldLaws.{HasEnd}
-use Rattle.aq_correct.proofs.WorldProofs.{worlds_cover_runs}
-use Rattle.aq_worlds.specs.Asked.{CanBeJudged}
-use Rattle.aq_worlds.specs.Playing.{world_of}
-use Rattle.aq_worlds.specs.declared.world.PlainWorld.{PlainWorld}
-use Rattle.aq_judge.specs.Listing.{HasWide, case_states}
-use Rattle.aq_judge.specs.Refuting.{EndsAlive, HasWideStep, IsAliveAt, IsEndOf, Shows}
-use Rattle.aq_judge.proofs.ListingLaws.{some_is, state_there, matches_filled, wide_in, wide_before}
+use Rattle.aq_correct.specs.WorldLaws.{WorldsDecide, WorldsRefute, shown_by_escape}
+use Rattle.aq_report.specs.Verdicts.{IsRefutedBy, shown_by}
+use Rattle.aq_report.specs.declared.verdict.Refutation.{Refutation}
+use Rattle.aq_report.specs.declared.verdict.Why.{Why}
+use Rattle.aq_report.specs.declared.verdict.Why.TheVariants as why
+use Rattle.aq_symbolic.specs.declared.kept.World.{World}
+use Rattle.aq_decide.specs.Asked.{CanBeDecided}
+use Rattle.aq_decide.proofs.Elements.{get_contains}
+use Rattle.aq_judge.specs.Refuting.{EndsAlive, HasWideStep, IsEndOf, IsShownBy, StopsFor}
+
+-- what a part stops for, the whole stops for
+pub stops_too : (P Q : Type 0) (e : Why) → (P → Q) → StopsFor P e → StopsFor Q e
+stops_too P Q why.Width f p = f p
+stops_too P Q why.Steps f p = absurd p
+stops_too P Q why.Memory f p = tt
 
 at_run : (P : ℕ → List Stmt → State → Type 0) (n q : ℕ) (body b : List Stmt) (s t : State) → n ≡ q → body ≡ b → s ≡ t → P n body s → P q b t
 at_run P n q body b s t e f g h = subst (P q b) g (subst (λ (l : List Stmt). P q l s) f (subst (λ (k : ℕ). P k body s) e h))
 
--- the case is one of those that were looked up
-pub case_bound : (p : Program) (s : Sets) (o : Obligation) (c : BoundCase) → CanBeJudged p s o → Contains o.from c → IsBoundCase p s c
-case_bound p s o c can m = All-contains (IsBoundCase p s) o.from c can.bound.from m
+-- the state is one of the program's
+pub is_state : VectorLaws → (p : Program) (s : Sets) (o : Obligation) → CanBeDecided p s o → (w : World) (state : List Amplitude) → IsShownBy p s o w state → IsStateVector p.qubits state
+is_state law p s o asked w state shown =
+    let f = shown.first in
+    let c = f.case in
+    let bound = All-contains (IsBoundCase p s) o.from c asked.bound.from (get_contains o.from w.case c f.number) in
+    let at = ap (λ (d : ClaimCase). slice_get d.vectors (place s.exprs c.set shown.word)) (sym f.of_case) ∙ f.state_is in
+    record {
+      size = All-contains (λ (v : List Amplitude). length v ≡ 2 ^ (size_of s.exprs c.set).qubits) (vectors_of s.exprs c.set) state (law.long s asked.sets c.set bound.there)
+          (get_contains (vectors_of s.exprs c.set) (place s.exprs c.set shown.word) state at) ∙ ap (λ (n : ℕ). 2 ^ n) bound.qubits;
+      few = asked.program.qubits;
+    }
 
--- the case lists a vector for each of the world's
-pub within_case : (p : Program) (s : Sets) (o : Obligation) (c : BoundCase) (w : PlainWorld) (place : ℕ) → CanBeJudged p s o → Contains (worlds (meaning_of p s o)) (world_of (case_of s c) w) → IsAliveAt (world_of (case_of s c) w) place
-    → place < length (vectors_of s.exprs c.set)
-within_case p s o c w place can there alive =
-    let long = (worlds_cover_runs.sized (meaning_of p s o) (world_of (case_of s c) w) can.bound.uncut there).1 in
-    let h = slice_get_within (world_of (case_of s c) w).vectors place alive.vector alive.there in
-    omega (arith, long, h)
-
--- ---- a run of the world
--- the statements, bits, state and outcomes are those of the run to the world's vector at this place
-pub record IsRunOf (p : Program) (s : Sets) (o : Obligation) (c : BoundCase) (w : PlainWorld) (place : ℕ) (body : List Stmt) (bits : List Bool) (state : StateVector) (outcomes : List Bool) : Type 0 where
-  pub asked : CanBeJudged p s o
-  pub listed : Contains o.from c
-  pub played : Contains (worlds (meaning_of p s o)) (world_of (case_of s c) w)
+-- the statements, bits, state and outcomes are those of the run from the state to the world's vector
+pub record IsRunOf (p : Program) (o : Obligation) (w : World) (state : List Amplitude) (body : List Stmt) (bits : List Bool) (vector : StateVector) (outcomes : List Bool) : Type 0 where
   pub body_is : body ≡ o.fragment
   pub bits_are : bits ≡ filled w.start
-  pub state_is : slice_get (case_states s c) place ≡ Some state
+  pub qubits_are : vector.qubits ≡ p.qubits
+  pub state_is : vector.amps ≡ state
   pub outcomes_are : outcomes ≡ w.outcomes
 
-module _ (p : Program) (s : Sets) (o : Obligation) (c : BoundCase) (w : PlainWorld) (place : ℕ) (body : List Stmt) (bits : List Bool) (state : StateVector) (outcomes : List Bool) (r : IsRunOf p s o c w place body bits state outcomes) where
-  on_qubits : state.qubits ≡ p.qubits
-  on_qubits = (state_there s c place state r.state_is).1 ∙ (case_bound p s o c r.asked r.listed).qubits
+module _ (refute : WorldsRefute) (decide : WorldsDecide) (p : Program) (s : Sets) (o : Obligation) (asked : CanBeDecided p s o) (w : World) (state : List Amplitude) (shown : IsShownBy p s o w state) where
+  escape : IsRefutation (meaning_of p s o) (shown_by_escape (meaning_of p s o) shown.first.world state shown.first.escape.escaping)
+  escape =
+      let f = shown.first in
+      let e = f.escape in
+      refute.escape (meaning_of p s o) f.earlier f.world f.later e.before e.escaping e.after state asked.bound.uncut f.worlds_are f.earlier_kept e.vectors_are e.before_kept e.nonzero e.escapes
+      (ap (slice_get f.world.case.vectors) e.place_is ∙ f.state_is)
 
-  start_is : start_of bits state.amps outcomes ≡ start_of (filled w.start) state.amps w.outcomes
-  start_is = λ i. start_of (r.bits_are i) state.amps (r.outcomes_are i)
+  counter : IsCounterexample (meaning_of p s o) (shown_by_escape (meaning_of p s o) shown.first.world state shown.first.escape.escaping)
+  counter = decide.counterexample (meaning_of p s o) _ asked.bound.uncut escape
 
-  ends : IsStart (meaning_of p s o) (filled w.start) state.amps × HasEnd (meaning_of p s o) (world_of (case_of s c) w) place (filled w.start) state.amps
-  ends =
-      worlds_cover_runs.ends (meaning_of p s o) (world_of (case_of s c) w) (filled w.start) place state.amps r.asked.bound.uncut r.played (matches_filled w.start)
-      (state_there s c place state r.state_is).0
+  module _ (body : List Stmt) (bits : List Bool) (vector : StateVector) (outcomes : List Bool) (r : IsRunOf p o w state body bits vector outcomes) where
+    bits_from : bits ≡ filled shown.first.world.start
+    bits_from = r.bits_are ∙ ap filled (sym shown.first.start)
 
-  pub run_playable : length w.start ≡ p.bits → ArePlayable state.qubits (length bits) body
-  run_playable long =
-      let many : length bits ≡ p.bits = ap length r.bits_are ∙ length-map w.start _ ∙ long in
-      let here : ArePlayable p.qubits p.bits o.fragment = record { claims = length p.claims; valid = r.asked.bound.fragment } in
-      subst (λ (l : List Stmt). ArePlayable state.qubits (length bits) l) (sym r.body_is)
-      (subst (λ (m : ℕ). ArePlayable state.qubits m o.fragment) (sym many) (subst (λ (n : ℕ). ArePlayable n p.bits o.fragment) (sym on_qubits) here))
+    outcomes_from : outcomes ≡ shown.first.world.outcomes
+    outcomes_from = r.outcomes_are ∙ sym shown.first.outcomes
 
-  pub run_ends : IsAliveAt (world_of (case_of s c) w) place → EndsAlive state.qubits body (start_of bits state.amps outcomes)
-  run_ends alive =
-      let here : EndsAlive p.qubits o.fragment (start_of (filled w.start) state.amps w.outcomes)
-      = record {
-        uncut = r.asked.bound.uncut;
-        whole = ends.1.whole;
-        alive = λ z. alive.nonzero (subst IsZeroVector (some_is _ alive.vector (sym ends.1.vector ∙ alive.there)) z);
-      } in
-      at_run EndsAlive p.qubits state.qubits o.fragment body (start_of (filled w.start) state.amps w.outcomes) (start_of bits state.amps outcomes) (sym on_qubits) (sym r.body_is) (sym start_is) here
+    start_is : start_of bits vector.amps outcomes ≡ start_of (filled shown.first.world.start) state shown.first.world.outcomes
+    start_is = λ i. start_of (bits_from i) (r.state_is i) (outcomes_from i)
 
-  pub run_wide : HasWideStep state.qubits body (start_of bits state.amps outcomes) → IsWide (meaning_of p s o)
-  run_wide h =
-      let g = at_run HasWideStep state.qubits p.qubits body o.fragment (start_of bits state.amps outcomes) (start_of (filled w.start) state.amps w.outcomes) on_qubits r.body_is start_is h in
-      inl (record { bits = filled w.start; vector = state.amps; outcomes = w.outcomes; start = ends.0; step = g.step; played = g.played; wide = g.wide })
+    pub run_playable : ArePlayable vector.qubits (length bits) body
+    run_playable =
+        let many : length bits ≡ p.bits = ap length bits_from ∙ counter.start.sized in
+        let here : ArePlayable p.qubits p.bits o.fragment = record { claims = length p.claims; valid = asked.bound.fragment } in
+        subst (λ (l : List Stmt). ArePlayable vector.qubits (length bits) l) (sym r.body_is)
+        (subst (λ (m : ℕ). ArePlayable vector.qubits m o.fragment) (sym many) (subst (λ (n : ℕ). ArePlayable n p.bits o.fragment) (sym r.qubits_are) here))
 
-  pub run_shown : (e : Reached) → IsEndOf state.qubits body (start_of bits state.amps outcomes) e
-      → Shows (meaning_of p s o) (world_of (case_of s c) w) place (record { bits = bits; state = state; outcomes = outcomes; end_bits = e.bits; end = e.vector })
-  run_shown e h =
-      let g = at_run (λ n l t. IsEndOf n l t e) state.qubits p.qubits body o.fragment (start_of bits state.amps outcomes) (start_of bits state.amps outcomes) on_qubits r.body_is refl h in
-      record {
-        state_qubits = on_qubits;
-        end_qubits = g.qubits;
-        bits_are = r.bits_are;
-        state_is = (state_there s c place state r.state_is).0;
-        outcomes_are = r.outcomes_are;
-        end_bits_are = g.bits;
-        end_is = g.vector;
-      }
+    pub run_ends : EndsAlive vector.qubits body (start_of bits vector.amps outcomes)
+    run_ends =
+        let here : EndsAlive p.qubits o.fragment (start_of (filled shown.first.world.start) state shown.first.world.outcomes)
+        = record {
+          uncut = asked.bound.uncut;
+          whole = counter.whole;
+          alive = λ z. counter.nonzero (subst IsZeroVector (sym counter.end_is) z);
+        } in
+        at_run EndsAlive p.qubits vector.qubits o.fragment body _ _ (sym r.qubits_are) (sym r.body_is) (sym start_is) here
 
-pub state_wide : (p : Program) (s : Sets) (o : Obligation) (c : BoundCase) → Contains o.from c → HasWide (products_of s.exprs c.set) → IsWide (meaning_of p s o)
-state_wide p s o c m w = wide_before p s o (wide_in s o.from c m w)
+    pub run_wide : HasWideStep vector.qubits body (start_of bits vector.amps outcomes) → IsWide (meaning_of p s o)
+    run_wide h =
+        let g = at_run HasWideStep vector.qubits p.qubits body o.fragment _ _ r.qubits_are r.body_is start_is h in
+        inl (record { bits = filled shown.first.world.start; vector = state; outcomes = shown.first.world.outcomes; start = counter.start; step = g.step; played = g.played; wide = g.wide })
+
+    pub run_shown : (e : Reached) → IsEndOf vector.qubits body (start_of bits vector.amps outcomes) e
+        → IsRefutedBy (meaning_of p s o) (record { bits = bits; state = vector; outcomes = outcomes; end_bits = e.bits; end = e.vector })
+    run_shown e h =
+        let m = meaning_of p s o in
+        let g = at_run (λ n l t. IsEndOf n l t e) vector.qubits p.qubits body o.fragment _ _ r.qubits_are r.body_is start_is h in
+        let told : Refutation = record { bits = bits; state = vector; outcomes = outcomes; end_bits = e.bits; end = e.vector } in
+        let same : shown_by told ≡ shown_by_escape m shown.first.world state shown.first.escape.escaping
+        = λ i. record { bits = bits_from i; state = r.state_is i; outcomes = outcomes_from i; end_bits = g.bits i; end = (g.vector ∙ sym counter.end_is) i } in
+        let refuted = subst (IsRefutation m) (sym same) escape in
+        record { state_qubits = r.qubits_are; end_qubits = g.qubits; refutation = refuted; counterexample = decide.counterexample m (shown_by told) asked.bound.uncut refuted }

@@ -1,4 +1,3 @@
-pub mod Examples
-pub mod Finding
-pub mod Listing
+pub mod Certified
 pub mod Refuting
+pub mod Examples

@@ -1,17 +1,15 @@
-//! The judge of an obligation, over plain lists of vectors: whether each world of its assumption has vectors alone that
-//! are zero or nonzero multiples of a vector of its goal.
+//! The judge of an obligation, over automata: a verdict that is justified, and where it is that the obligation is true,
+//! certificates of that.
 //!
-//! The definitions are in `specs/`: `Listing` has the cases with their vectors, `Finding` what is found of a vector and
-//! of a world, and `Refuting` what is shown of the first world that has another vector.
+//! The definitions are in `specs/`: `Certified` says which certificates come with a verdict, and `Refuting` what is
+//! known of the run that a refutation shows.
 #![tactic(auto)]
 
-mod compare;
-mod find;
-mod listing;
+mod judged;
 mod refute;
 #[cfg(test)]
 mod tests;
 mod verdict;
-mod worlds;
 
-pub use verdict::{judge, judge_by_sizes};
+pub use judged::Judged;
+pub use verdict::judge;

@@ -1,24 +1,21 @@
-//! What is shown of a world that has a vector which escapes the goal.
-ghost use Rattle.std.specs.Prelude.{◌≡◌, ◌<◌, Contains, IfErr, IfOk, Some, length, slice_get};
-ghost use Rattle.aq_sets.specs.Caps.{capped_sizes};
-ghost use Rattle.aq_sets.specs.Valid.{IsValidSets};
-ghost use Rattle.aq_sets.specs.Vectors.{products_of, vectors_of};
+//! What is shown of the first world that has a vector which escapes the goal.
+ghost use Rattle.std.specs.Prelude.{◌≡◌, IfErr, IfOk, length};
 ghost use Rattle.aq_plain.specs.Replaying.{ArePlayable, start_of};
-ghost use Rattle.aq_obligations.specs.Asking.{case_of, meaning_of};
+ghost use Rattle.aq_obligations.specs.Asking.{meaning_of};
 ghost use Rattle.aq_obligations.specs.Wide.{IsWide};
-ghost use Rattle.aq_obligations.specs.Worlds.{filled, worlds};
-ghost use Rattle.aq_worlds.specs.Asked.{CanBeJudged};
-ghost use Rattle.aq_worlds.specs.Playing.{StopsFor, world_of};
-ghost use Rattle.aq_judge.specs.Listing.{HasWide, case_states};
-ghost use Rattle.aq_judge.specs.Refuting.{EndsAlive, HasWideStep, IsAliveAt, IsEndOf, Shows};
+ghost use Rattle.aq_obligations.specs.Worlds.{filled};
+ghost use Rattle.aq_report.specs.Verdicts.{IsRefutedBy};
+ghost use Rattle.aq_decide.specs.Asked.{CanBeDecided};
+ghost use Rattle.aq_judge.specs.Refuting.{EndsAlive, HasWideStep, IsEndOf, IsShownBy, StopsFor};
 
-use crate::listing::case_states;
-use aq_obligations::{BoundCase, Obligation};
+use aq_correct::laws;
+use aq_obligations::Obligation;
 use aq_plain::{Played, ReplayStop, Vector, replay};
 use aq_prog::{Program, Stmt};
-use aq_report::Refutation;
-use aq_sets::{Sets, Size};
-use aq_worlds::{PlainWorld, Stop};
+use aq_report::{Refutation, Why};
+use aq_ring::Amp;
+use aq_sets::{Sets, laws as set_laws};
+use aq_symbolic::World;
 use sqlite_items::Items;
 use std::alloc::{AllocError, Global};
 
@@ -33,25 +30,6 @@ fn filled(alloc: Global, bits: &[Option<bool>]) -> Result<Items<bool>, AllocErro
     Ok(list)
 }
 
-/// The vector that the case lists at a place.
-fn state_at(
-    alloc: Global,
-    sets: &Sets,
-    sizes: &[Size],
-    case: &BoundCase,
-    place: usize,
-) -> Result<Vector, Stop>
-    requires sets { IsValidSets sets.now }
-    requires told { sizes.now ≡ capped_sizes sets.now.exprs }
-    requires there { case.now.set < length sets.now.exprs }
-    requires within { place < length (vectors_of sets.now.exprs case.now.set) }
-    ensures ok { IfOk result (λ v. slice_get (case_states sets.now case.now) place ≡ Some v) }
-    ensures err { IfErr result (λ e. StopsFor (HasWide (products_of sets.now.exprs case.now.set)) e) }
-{
-    let mut list = case_states(alloc, sets, sizes, case)?;
-    Ok(list.remove(place))
-}
-
 /// The end of a run that has one, at which no outcome is left and the vector isn't zero.
 fn end_of_run(
     alloc: Global,
@@ -59,19 +37,21 @@ fn end_of_run(
     bits: &[bool],
     state: &Vector,
     outcomes: &[bool],
-) -> Result<Played, Stop>
+) -> Result<Played, Why>
     requires playable { ArePlayable state.now.qubits (length bits.now) body.now }
     requires ends { EndsAlive state.now.qubits body.now (start_of bits.now state.now.amps outcomes.now) }
     ensures ok { IfOk result (λ end. IsEndOf state.now.qubits body.now
         (start_of bits.now state.now.amps outcomes.now) end) }
-    ensures err { IfErr result (λ e. StopsFor (HasWideStep state.now.qubits body.now
-        (start_of bits.now state.now.amps outcomes.now)) e) }
+    ensures err { IfErr result (StopsFor (HasWideStep state.now.qubits body.now
+        (start_of bits.now state.now.amps outcomes.now))) }
 {
-    let start = state.copy(alloc)?;
+    let Ok(start) = state.copy(alloc) else {
+        return Err(Why::Memory);
+    };
     match replay(alloc, body, bits, start, outcomes) {
         Ok(end) => Ok(end),
-        Err(ReplayStop::Wide { .. }) => Err(Stop::Width),
-        Err(ReplayStop::Memory) => Err(Stop::Memory),
+        Err(ReplayStop::Wide { .. }) => Err(Why::Width),
+        Err(ReplayStop::Memory) => Err(Why::Memory),
         Err(ReplayStop::NotLoopFree) => unreachable!(),
         Err(ReplayStop::ShortOutcomes) => unreachable!(),
         Err(ReplayStop::Impossible { .. }) => unreachable!(),
@@ -80,31 +60,27 @@ fn end_of_run(
     }
 }
 
-/// Shows the run to the vector of the world at a place, which isn't zero. The world is one of the case's.
+/// Shows the run to the first vector of the world that escapes. `state` has the amplitudes from which it comes.
 pub(crate) fn refutation(
     alloc: Global,
     program: &Program,
     sets: &Sets,
-    sizes: &[Size],
     obligation: &Obligation,
-    case: &BoundCase,
-    world: &PlainWorld,
-    place: usize,
-) -> Result<Refutation, Stop>
-    requires asked { CanBeJudged program.now sets.now obligation.now }
-    requires told { sizes.now ≡ capped_sizes sets.now.exprs }
-    requires listed { Contains obligation.now.from case.now }
-    requires played { Contains (worlds (meaning_of program.now sets.now obligation.now))
-        (world_of (case_of sets.now case.now) world.now) }
-    requires bits { length world.now.start ≡ program.now.bits }
-    requires alive { IsAliveAt (world_of (case_of sets.now case.now) world.now) place }
-    ensures ok { IfOk result (λ r. Shows (meaning_of program.now sets.now obligation.now)
-        (world_of (case_of sets.now case.now) world.now) place r) }
-    ensures err { IfErr result (λ e. StopsFor (IsWide (meaning_of program.now sets.now obligation.now)) e) }
+    world: World,
+    state: Vec<Amp>,
+) -> Result<Refutation, Why>
+    requires asked { CanBeDecided program.now sets.now obligation.now }
+    requires escapes { IsShownBy program.now sets.now obligation.now world state.items }
+    ensures ok { IfOk result (IsRefutedBy (meaning_of program.now sets.now obligation.now)) }
+    ensures err { IfErr result (StopsFor (IsWide (meaning_of program.now sets.now obligation.now))) }
 {
-    let bits = filled(alloc, world.start.as_slice())?;
-    let state = state_at(alloc, sets, sizes, case, place)?;
-    let outcomes = Items::from_slice(alloc, world.outcomes.as_slice())?;
+    laws::worlds();
+    set_laws::expressions();
+    let Ok(bits) = filled(alloc, world.start.as_slice()) else {
+        return Err(Why::Memory);
+    };
+    let state = Vector::from_amps(program.qubits, state);
+    let outcomes = world.outcomes;
     let body = obligation.fragment.as_slice();
     let end = end_of_run(alloc, body, bits.as_slice(), &state, outcomes.as_slice())?;
     Ok(Refutation {

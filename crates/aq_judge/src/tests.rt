@@ -12,7 +12,7 @@ ghost use Rattle.aq_judge.specs.Examples.{
   table,
 };
 
-use crate::judge;
+use crate::{Judged, judge};
 use aq_lex::Text;
 use aq_obligations::{BoundCase, Goal, Kind, Obligation};
 use aq_prog::{BitRegister, Entry, Gate, Guard, Program, Stmt, gate_named};
@@ -244,8 +244,8 @@ fn obligation(
     })
 }
 
-/// What is said of the obligation, where the expressions have this amplitude.
-fn verdict_of(alloc: Global, amp: Amp, obligation: &Obligation, limit: u64) -> Result<Verdict, Fail>
+/// What is judged of the obligation, where the expressions have this amplitude.
+fn judged(alloc: Global, amp: Amp, obligation: &Obligation, limit: u64) -> Result<Judged, Fail>
     requires small { IsSmallObligation obligation.now }
     requires limit { limit ≤ 1000000000 }
 {
@@ -299,6 +299,20 @@ fn told_by(verdict: &Verdict) -> Said {
 
 const LIMIT: u64 = 20_000_000;
 
+/// What is said of an obligation, and how many certificates come with it.
+fn said_with(
+    alloc: Global,
+    amp: Amp,
+    obligation: &Obligation,
+    limit: u64,
+) -> Result<(Said, usize), Fail>
+    requires small { IsSmallObligation obligation.now }
+    requires limit { limit ≤ 1000000000 }
+{
+    let judged = judged(alloc, amp, obligation, limit)?;
+    Ok((told_by(&judged.verdict), judged.certs.len()))
+}
+
 /// Of one gate, from the program's start.
 fn said_of(
     alloc: Global,
@@ -306,19 +320,19 @@ fn said_of(
     amp: Amp,
     before: &[(u32, Option<bool>)],
     after: &[(u32, Option<bool>)],
-) -> Result<Said, Fail> {
+) -> Result<(Said, usize), Fail> {
     let obligation = obligation(alloc, From::Start, &[Part::Gate(name)], before, after)?;
-    let verdict = verdict_of(alloc, amp, &obligation, LIMIT)?;
-    Ok(told_by(&verdict))
+    said_with(alloc, amp, &obligation, LIMIT)
 }
 
 /// Refuted by a run of gates, where the bit stays 0.
-fn by_gates(state: Amp, end: Amp) -> Said {
-    Said::Refuted(Run {
+fn by_gates(state: Amp, end: Amp) -> (Said, usize) {
+    let run = Run {
         state: (false, state),
         outcome: None,
         end: (false, end),
-    })
+    };
+    (Said::Refuted(run), 0)
 }
 
 #[test]
@@ -326,7 +340,7 @@ fn all_states_are_kept(rt: HostRuntime) -> Result<(), Fail> {
     let alloc = rt.alloc();
     assert_eq!(rt;
         said_of(alloc, b"x", Amp::one(), &[(2, None)], &[(2, None)])?,
-        Said::Verified
+        (Said::Verified, 1)
     );
     let refuted = by_gates(Amp::one(), Amp::zero());
     assert_eq!(rt;
@@ -342,7 +356,7 @@ fn phases_count_for_nothing(rt: HostRuntime) -> Result<(), Fail> {
     let phase = Amp::one().turn(2);
     assert_eq!(rt;
         said_of(alloc, b"x", phase, &[(3, None)], &[(3, None)])?,
-        Said::Verified
+        (Said::Verified, 1)
     );
     let first = by_gates(Amp::zero(), Amp::one());
     assert_eq!(rt;
@@ -364,7 +378,7 @@ fn bits_are_zero(rt: HostRuntime) -> Result<(), Fail> {
     let never = &[(0, Some(true))];
     assert_eq!(rt;
         said_of(alloc, b"x", one, never, &[(0, None)])?,
-        Said::Verified
+        (Said::Verified, 0)
     );
     let refuted = by_gates(Amp::zero(), Amp::one());
     assert_eq!(rt;
@@ -377,7 +391,7 @@ fn bits_are_zero(rt: HostRuntime) -> Result<(), Fail> {
     );
     assert_eq!(rt;
         said_of(alloc, b"x", one, &[(0, None)], &[(1, Some(false))])?,
-        Said::Verified
+        (Said::Verified, 1)
     );
     Ok(())
 }
@@ -385,31 +399,15 @@ fn bits_are_zero(rt: HostRuntime) -> Result<(), Fail> {
 #[test]
 fn a_zero_end_is_kept(rt: HostRuntime) -> Result<(), Fail> {
     let told = said_of(rt.alloc(), b"x", Amp::zero(), &[(1, None)], &[(0, None)])?;
-    assert_eq!(rt; told, Said::Verified);
+    assert_eq!(rt; told, (Said::Verified, 0));
     Ok(())
 }
 
 #[test]
-fn numbers_that_do_not_fit(rt: HostRuntime) -> Result<(), Fail> {
-    let alloc = rt.alloc();
-    let width = Said::GaveUp(Why::Width);
+fn a_gate_that_does_not_fit(rt: HostRuntime) -> Result<(), Fail> {
     let large = Amp::from_parts([i128::MAX, 0, 0, 0], 0).ok_or("large")?;
-    assert_eq!(rt;
-        said_of(alloc, b"h", large, &[(4, None)], &[(4, None)])?,
-        width
-    );
-    assert_eq!(rt;
-        said_of(alloc, b"x", large, &[(4, None)], &[(4, None)])?,
-        width
-    );
-    assert_eq!(rt;
-        said_of(alloc, b"x", large, &[(4, None)], &[(4, None), (0, None)])?,
-        width
-    );
-    assert_eq!(rt;
-        said_of(alloc, b"x", large, &[(4, None)], &[(4, None), (5, None)])?,
-        Said::Verified
-    );
+    let told = said_of(rt.alloc(), b"h", large, &[(4, None)], &[(4, None)])?;
+    assert_eq!(rt; told, (Said::GaveUp(Why::Width), 0));
     Ok(())
 }
 
@@ -417,20 +415,13 @@ fn numbers_that_do_not_fit(rt: HostRuntime) -> Result<(), Fail> {
 fn steps_up_to_the_limit(rt: HostRuntime) -> Result<(), Fail> {
     let alloc = rt.alloc();
     let one = Amp::one();
-    let steps = Said::GaveUp(Why::Steps);
     let flip = &[Part::Gate(b"x")];
     let plain = obligation(alloc, From::Start, flip, &[(0, None)], &[(1, None)])?;
-    assert_eq!(rt; told_by(&verdict_of(alloc, one, &plain, 223)?), steps);
     assert_eq!(rt;
-        told_by(&verdict_of(alloc, one, &plain, 224)?),
-        Said::Verified
+        said_with(alloc, one, &plain, 2)?,
+        (Said::GaveUp(Why::Steps), 0)
     );
-    let split = obligation(alloc, From::Start, flip, &[(0, Some(true))], &[(1, None)])?;
-    assert_eq!(rt; told_by(&verdict_of(alloc, one, &split, 319)?), steps);
-    assert_eq!(rt;
-        told_by(&verdict_of(alloc, one, &split, 320)?),
-        Said::Verified
-    );
+    assert_eq!(rt; said_with(alloc, one, &plain, 224)?, (Said::Verified, 1));
     Ok(())
 }
 
@@ -442,17 +433,14 @@ fn outcomes_one_by_one(rt: HostRuntime) -> Result<(), Fail> {
     let toss = &[Part::Gate(b"h"), Part::Measurement];
     let by_bit = &[(0, Some(false)), (1, Some(true))];
     let told = obligation(alloc, From::Start, toss, &[(0, None)], by_bit)?;
-    assert_eq!(rt;
-        told_by(&verdict_of(alloc, one, &told, LIMIT)?),
-        Said::Verified
-    );
+    assert_eq!(rt; said_with(alloc, one, &told, LIMIT)?, (Said::Verified, 2));
     let zero = obligation(alloc, From::Start, toss, &[(0, None)], &[(0, None)])?;
     let refuted = Said::Refuted(Run {
         state: (false, Amp::zero()),
         outcome: Some(true),
         end: (true, root),
     });
-    assert_eq!(rt; told_by(&verdict_of(alloc, one, &zero, LIMIT)?), refuted);
+    assert_eq!(rt; said_with(alloc, one, &zero, LIMIT)?, (refuted, 0));
     Ok(())
 }
 
@@ -467,12 +455,9 @@ fn bits_that_are_open(rt: HostRuntime) -> Result<(), Fail> {
         outcome: None,
         end: (true, Amp::one()),
     });
-    assert_eq!(rt; told_by(&verdict_of(alloc, one, &open, LIMIT)?), refuted);
+    assert_eq!(rt; said_with(alloc, one, &open, LIMIT)?, (refuted, 0));
     let zero = From::Claim(Some(false));
     let known = obligation(alloc, zero, flip, &[(0, None)], &[(0, None)])?;
-    assert_eq!(rt;
-        told_by(&verdict_of(alloc, one, &known, LIMIT)?),
-        Said::Verified
-    );
+    assert_eq!(rt; said_with(alloc, one, &known, LIMIT)?, (Said::Verified, 1));
     Ok(())
 }

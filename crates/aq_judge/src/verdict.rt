@@ -1,97 +1,91 @@
 //! The judge.
-ghost use Rattle.std.specs.Prelude.{◌≡◌, ◌≤◌, ◌<◌, ◌⊎◌, ℕ, IfErr, IfOk};
-ghost use Rattle.aq_sets.specs.Caps.{capped_sizes};
+ghost use Rattle.std.specs.Prelude.{◌≤◌, IfErr, IfOk};
 ghost use Rattle.aq_obligations.specs.Asking.{meaning_of};
 ghost use Rattle.aq_obligations.specs.Enough.{enough};
-ghost use Rattle.aq_obligations.specs.Wide.{IsWide};
 ghost use Rattle.aq_report.specs.Verdicts.{IsJustified};
 ghost use Rattle.aq_report.specs.declared.verdict.Verdict.TheVariants as verdict;
-ghost use Rattle.aq_report.specs.declared.verdict.Why.TheVariants as why;
-ghost use Rattle.aq_worlds.specs.Asked.{CanBeJudged};
-ghost use Rattle.aq_worlds.specs.Playing.{StopsFor};
+ghost use Rattle.aq_decide.specs.Asked.{CanBeDecided};
+ghost use Rattle.aq_judge.specs.Certified.{HasItsCerts};
 
-use crate::listing::goal_cases;
-use crate::worlds::judge_cases;
-use aq_obligations::{Obligation, enough_steps};
+use crate::judged::Judged;
+use crate::refute::refutation;
+use aq_correct::laws;
+use aq_decide::{Decision, decide};
+use aq_obligations::Obligation;
 use aq_prog::Program;
 use aq_report::{Verdict, Why};
-use aq_sets::{Sets, Size, sizes_of};
-use aq_worlds::Stop;
+use aq_sets::Sets;
+use aq_store::{Steps, Stop};
+use sqlite_items::Items;
 use std::alloc::Global;
 
-/// Judges the obligation, however many steps that takes.
+/// Judges the obligation, unless it is given up.
+#[tactic(auto, using(crate::proofs::VerdictLaws::certs_within, crate::proofs::VerdictLaws::shown, crate::proofs::VerdictLaws::gives_up))]
 fn try_judge(
     alloc: Global,
     program: &Program,
     sets: &Sets,
-    sizes: &[Size],
     obligation: &Obligation,
-) -> Result<Verdict, Stop>
-    requires asked { CanBeJudged program.now sets.now obligation.now }
-    requires told { sizes.now ≡ capped_sizes sets.now.exprs }
-    ensures ok { IfOk result (λ v. (limit enough : ℕ) → IsJustified limit enough
-        (meaning_of program.now sets.now obligation.now) v) }
-    ensures err { IfErr result (λ e. StopsFor (IsWide (meaning_of program.now sets.now obligation.now)) e) }
+    limit: u64,
+) -> Result<Judged, Why>
+    requires asked { CanBeDecided program.now sets.now obligation.now }
+    requires limit { limit ≤ 1000000000 }
+    ensures justified { let enough = enough program.now sets.now obligation.now in
+        let meaning = meaning_of program.now sets.now obligation.now in
+        IfOk result (λ j. IsJustified limit enough meaning j.verdict) }
+    ensures certified { IfOk result (HasItsCerts limit program.now sets.now obligation.now) }
+    ensures gives_up { let enough = enough program.now sets.now obligation.now in
+        let meaning = meaning_of program.now sets.now obligation.now in
+        IfErr result (λ why. IsJustified limit enough meaning (verdict.GaveUp why)) }
 {
-    let cases = obligation.goal.cases.as_slice();
-    let goal = goal_cases(alloc, program, sets, sizes, cases)?;
-    match judge_cases(alloc, program, sets, sizes, obligation, goal.as_slice())? {
-        None => Ok(Verdict::Verified),
-        Some(refutation) => Ok(Verdict::Refuted(refutation)),
+    laws::worlds();
+    let mut steps = Steps::new(limit);
+    let decided = decide(alloc, program, sets, obligation, &mut steps);
+    let _taken = steps.taken();
+    match decided {
+        Ok(Decision::Holds(certs)) => Ok(Judged {
+            verdict: Verdict::Verified,
+            certs,
+        }),
+        Ok(Decision::Escapes { world, state, .. }) => {
+            let refutation = refutation(alloc, program, sets, obligation, world, state)?;
+            Ok(Judged {
+                verdict: Verdict::Refuted(refutation),
+                certs: Items::new(alloc),
+            })
+        }
+        Err(Stop::Spent) => Err(Why::Steps),
+        Err(Stop::Wide { .. }) => Err(Why::Width),
+        Err(Stop::WideParts { .. }) => Err(Why::Width),
+        Err(Stop::Memory) => Err(Why::Memory),
     }
 }
 
 /// Judges an obligation of the program: whether each run of its statements, from a state of one of its cases, ends in
 /// zero or in a nonzero multiple of a vector of a case of the goal whose conditions hold there.
 ///
-/// The verdict is justified. A refutation is that of the first vector which isn't kept, of the first world that has
-/// one. `GaveUp(Steps)`: exactly where the limit is below the number of steps that are enough, which is told before
-/// any vector is made. `GaveUp(Width)`: a number that is needed doesn't fit. `GaveUp(Memory)`: memory ran out, which
-/// may come anywhere.
+/// The verdict is justified. Verified: there is a valid certificate for each world, in order, and neither a gate nor a
+/// product of a set was wide. A refutation is that of the first vector which isn't kept, of the first world that has
+/// one. `GaveUp(Steps)`: only where the limit is below the number of steps that are enough. `GaveUp(Width)`: a number
+/// that is needed doesn't fit. `GaveUp(Memory)`: memory ran out, which may come anywhere.
 pub fn judge(
     alloc: Global,
     program: &Program,
     sets: &Sets,
     obligation: &Obligation,
     limit: u64,
-) -> Verdict
-    requires asked { CanBeJudged program.now sets.now obligation.now }
+) -> Judged
+    requires asked { CanBeDecided program.now sets.now obligation.now }
     requires limit { limit ≤ 1000000000 }
     ensures justified { IsJustified limit (enough program.now sets.now obligation.now)
-        (meaning_of program.now sets.now obligation.now) result }
-    ensures steps { limit < enough program.now sets.now obligation.now → (result ≡ verdict.GaveUp why.Steps) ⊎
-        (result ≡ verdict.GaveUp why.Memory) }
+        (meaning_of program.now sets.now obligation.now) result.verdict }
+    ensures certified { HasItsCerts limit program.now sets.now obligation.now result }
 {
-    let Ok(sizes) = sizes_of(alloc, sets) else {
-        return Verdict::GaveUp(Why::Memory);
-    };
-    judge_by_sizes(alloc, program, sets, sizes.as_slice(), obligation, limit)
-}
-
-/// The same, where the sizes of all expressions are told: for who has several obligations judged.
-pub fn judge_by_sizes(
-    alloc: Global,
-    program: &Program,
-    sets: &Sets,
-    sizes: &[Size],
-    obligation: &Obligation,
-    limit: u64,
-) -> Verdict
-    requires asked { CanBeJudged program.now sets.now obligation.now }
-    requires told { sizes.now ≡ capped_sizes sets.now.exprs }
-    requires limit { limit ≤ 1000000000 }
-    ensures justified { IsJustified limit (enough program.now sets.now obligation.now)
-        (meaning_of program.now sets.now obligation.now) result }
-    ensures steps { limit < enough program.now sets.now obligation.now → (result ≡ verdict.GaveUp why.Steps) ⊎
-        (result ≡ verdict.GaveUp why.Memory) }
-{
-    let enough = enough_steps(program, sets, sizes, obligation);
-    if u128::from(limit) < enough {
-        return Verdict::GaveUp(Why::Steps);
-    }
-    match try_judge(alloc, program, sets, sizes, obligation) {
-        Ok(verdict) => verdict,
-        Err(Stop::Width) => Verdict::GaveUp(Why::Width),
-        Err(Stop::Memory) => Verdict::GaveUp(Why::Memory),
+    match try_judge(alloc, program, sets, obligation, limit) {
+        Ok(judged) => judged,
+        Err(why) => Judged {
+            verdict: Verdict::GaveUp(why),
+            certs: Items::new(alloc),
+        },
     }
 }

@@ -57,8 +57,8 @@ impl Vector {
         Ok(Vector { qubits, amps })
     }
 
-    /// The state with these amplitudes.
-    pub(crate) fn from_amps(qubits: u32, amps: Vec<Amp>) -> Vector
+    /// The state of so many qubits with these amplitudes.
+    pub fn from_amps(qubits: u32, amps: Vec<Amp>) -> Vector
         requires { IsStateVector qubits amps.items }
         ensures qubits { result.qubits ≡ qubits }
         ensures amps { result.amps ≡ amps.items }

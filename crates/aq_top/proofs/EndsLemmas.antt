@@ -41,7 +41,7 @@ use Rattle.aq_base.specs.Checks.{or_refuse}
 use Rattle.aq_words.specs.declared.command.WordsFault.{WordsFault}
 use Rattle.aq_words.specs.declared.command.WordsFault.TheVariants as words
 use Rattle.aq_top.specs.Check.{CheckCause, CheckEnd, IsReport, ReadsObligations, ReadsTask}
-use Rattle.aq_top.specs.Judging.{AreAnswered, AreDecided, CountsVerdicts, EndsWithVerdicts, IsTally, verdicts_status}
+use Rattle.aq_top.specs.Judging.{AreDecided, CountsVerdicts, EndsWithVerdicts, IsTally, verdicts_status}
 use Rattle.aq_top.specs.Clauses.{IsAnswer, IsReportOf, StatusSays, TellsTheRun, ToldIsCorrect}
 use Rattle.aq_top.specs.Commands.{CommandEnd, RunEnd}
 use Rattle.aq_top.specs.Ends.{Ends, EndsAs, IsText, StoppedBy, refusal_status, status_of}
@@ -51,7 +51,7 @@ use Rattle.aq_top.specs.Lines.{usage_text}
 use Rattle.aq_top.specs.Tasks.{Task, IsTask, owed_in, program_of, task_of}
 use Rattle.aq_top.specs.Trial.{HasNoTextSets, HasNoTextTask, IsTrial, OwesBetween, ProgramTextCause, TextsCause, TrialCause, TrialEnd, trial_line, trial_program, trial_sets}
 use Rattle.aq_base.specs.Limits.{most_steps}
-use Rattle.aq_top.proofs.ReportLemmas.{all_true, are_decided, are_justified}
+use Rattle.aq_top.proofs.ReportLemmas.{all_true, are_decided}
 use Rattle.aq_top.specs.declared.judging.Tally.{Tally}
 use Rattle.aq_top.specs.declared.status.Status.{Status}
 use Rattle.aq_top.specs.declared.status.Status.TheVariants as status
@@ -99,10 +99,9 @@ pub loaded_end : {S : Type 0} (sink : SinkMeaning S) (old new : S) (told : Optio
     → WorldsDecide → ReadsObligations told w p s os → EndsWithVerdicts sink old new w.steps p s os (report os) result → Ends sink old new (CheckEnd told RF w) result
 loaded_end sink old new told RF w p s os result law r e =
     let vs = e.verdicts in
-    let answered = subst (λ (l : List Obligation). AreAnswered w.steps p s l vs) r.owed e.answered in
-    let justified = are_justified w.steps p s (obligations_of p r.claims) vs answered in
+    let justified = subst (λ (l : List Obligation). AreJustified w.steps p s l vs) r.owed e.justified in
     Ends-more sink old new (IsText (verdicts_status vs) (report os vs)) (CheckEnd told RF w) result
-    (λ st text h. report_end told RF w (task_of p s r.claims) vs r.read justified (are_decided w.steps p s law (obligations_of p r.claims) vs answered) st text (subst (λ (l : List Obligation). IsText (verdicts_status vs) (report l vs) st text) r.owed h))
+    (λ st text h. report_end told RF w (task_of p s r.claims) vs r.read justified (are_decided w.steps p s law (obligations_of p r.claims) vs justified) st text (subst (λ (l : List Obligation). IsText (verdicts_status vs) (report l vs) st text) r.owed h))
     e.ends
 
 pub refused_end : (told : Option Held) (RF : List ℕ → Type 0) (w : CheckWords) (r : Refusal) → CheckCause told RF w r
@@ -137,10 +136,9 @@ pub trial_end : {S : Type 0} (sink : SinkMeaning S) (old new : S) (n : ℕ) (p :
     → ((vs : List Verdict) → IsTally t vs → Ends sink old new (IsText (verdicts_status vs) (trial_line n vs)) result) → Ends sink old new (TrialEnd n) result
 trial_end sink old new n p s os t result law r counted ends =
     let vs = counted.verdicts in
-    let answered = subst (λ (l : List Obligation). AreAnswered most_steps p s l vs) r.owed counted.answered in
-    let justified = are_justified most_steps p s (obligations_of p r.claims) vs answered in
+    let justified = subst (λ (l : List Obligation). AreJustified most_steps p s l vs) r.owed counted.justified in
     Ends-more sink old new (IsText (verdicts_status vs) (trial_line n vs)) (TrialEnd n) result
-    (trial_line_end n (task_of p s r.claims) vs r.says justified (are_decided most_steps p s law (obligations_of p r.claims) vs answered))
+    (trial_line_end n (task_of p s r.claims) vs r.says justified (are_decided most_steps p s law (obligations_of p r.claims) vs justified))
     (ends vs counted.counts)
 
 pub untried_end : (n : ℕ) (r : Refusal) → TrialCause n r → (s : Status) (text : List ℕ) → IsText (refusal_status r) (refusal_text r) s text → TrialEnd n s text

@@ -26,17 +26,17 @@ use Rattle.aq_report.specs.Verdicts.{AreJustified, IsJustified, shown_by}
 use Rattle.aq_report.specs.declared.verdict.Verdict.{Verdict}
 use Rattle.aq_report.specs.declared.verdict.Verdict.TheVariants as verdict
 use Rattle.aq_report.specs.declared.verdict.Why.TheVariants as why
-use Rattle.aq_top.specs.Judging.{AreAnswered, AreDecided, CountsVerdicts, Decides, IsAnswered, IsTally, PrintsVerdicts, verdicts_status}
+use Rattle.aq_top.specs.Judging.{AreDecided, CountsVerdicts, Decides, IsTally, PrintsVerdicts, verdicts_status}
 use Rattle.aq_top.specs.declared.judging.Tally.{Tally}
 use Rattle.aq_top.specs.declared.status.Status.{Status}
 use Rattle.aq_top.specs.declared.status.Status.TheVariants as status
 
 module _ (limit : ℕ) (p : Program) (s : Sets) where
   abbrev Fine : List Obligation → List Verdict → Type 0
-  Fine = AreAnswered limit p s
+  Fine = AreJustified limit p s
 
   abbrev IsFine : Obligation → Verdict → Type 0
-  IsFine o v = IsAnswered limit (enough p s o) (meaning_of p s o) v
+  IsFine o v = IsJustified limit (enough p s o) (meaning_of p s o) v
 
   pub fine_append : (as' bs : List Obligation) (vs ws : List Verdict) → Fine as' vs → Fine bs ws → Fine (as' ++ bs) (vs ++ ws)
   fine_append [] bs [] ws f g = g
@@ -47,7 +47,7 @@ module _ (limit : ℕ) (p : Program) (s : Sets) where
   -- an obligation that was given up for want of memory asks nothing
   pub given_up : (os : List Obligation) → Fine os (map (λ _. verdict.GaveUp why.Memory) os)
   given_up [] = tt
-  given_up (o ∷ os) = ((tt, λ h. inr refl), given_up os)
+  given_up (o ∷ os) = (tt, given_up os)
 
   -- one more
   pub fine_more : (os : List Obligation) (i : ℕ) (o : Obligation) (vs : List Verdict) (v : Verdict) → i < length os → o ≡ get_or os i o → Fine (take i os) vs → IsFine o v
@@ -96,17 +96,10 @@ decides limit most o law (verdict.GaveUp why.Width) j h n = n j
 decides limit most o law (verdict.GaveUp why.Steps) j h n = omega (arith, j, h)
 decides limit most o law (verdict.GaveUp why.Memory) j h n = tt
 
-pub are_decided : (limit : ℕ) (p : Program) (s : Sets) (law : WorldsDecide) (os : List Obligation) (vs : List Verdict) → AreAnswered limit p s os vs → AreDecided limit p s os vs
+pub are_decided : (limit : ℕ) (p : Program) (s : Sets) (law : WorldsDecide) (os : List Obligation) (vs : List Verdict) → AreJustified limit p s os vs → AreDecided limit p s os vs
 are_decided limit p s law [] vs f = tt
 are_decided limit p s law (o ∷ os) [] f = tt
-are_decided limit p s law (o ∷ os) (v ∷ vs) f =
-    (record { decides = decides limit (enough p s o) (meaning_of p s o) law v f.0.0; stops = f.0.1 }, are_decided limit p s law os vs f.1)
-
-pub are_justified : (limit : ℕ) (p : Program) (s : Sets) (os : List Obligation) (vs : List Verdict) → AreAnswered limit p s os vs → AreJustified limit p s os vs
-are_justified limit p s [] [] f = tt
-are_justified limit p s [] (v ∷ vs) f = absurd f
-are_justified limit p s (o ∷ os) [] f = absurd f
-are_justified limit p s (o ∷ os) (v ∷ vs) f = (f.0.0, are_justified limit p s os vs f.1)
+are_decided limit p s law (o ∷ os) (v ∷ vs) f = (decides limit (enough p s o) (meaning_of p s o) law v f.0, are_decided limit p s law os vs f.1)
 
 -- ---- all verified
 
@@ -199,7 +192,7 @@ good_status t vs h none nil =
 -- the first obligations have their verdicts, and the lines of these were printed
 pub record SoFar {S : Type 0} (sink : SinkMeaning S) (old new : S) (limit : ℕ) (p : Program) (s : Sets) (os : List Obligation) (i : ℕ) (t : Tally) : Type 0 where
   pub verdicts : List Verdict
-  pub answered : AreAnswered limit p s (take i os) verdicts
+  pub justified : AreJustified limit p s (take i os) verdicts
   pub prints : Prints {T = Unit {0}} sink old new (Ok tt) (lines_from 1 (take i os) verdicts)
   pub counts : IsTally t verdicts
 
@@ -207,7 +200,7 @@ pub so_far_first : {S : Type 0} (sink : SinkMeaning S) (x : S) (limit : ℕ) (p 
     → SoFar sink x x limit p s os 0 (record { verified = 0; refuted = 0; gave_up = 0 })
 so_far_first sink x limit p s os = record {
   verdicts = [];
-  answered = tt;
+  justified = tt;
   prints = Prints-none sink x tt;
   counts = record { verified = refl; refuted = refl; gave_up = refl };
 }
@@ -220,32 +213,32 @@ module _ {S : Type 0} (sink : SinkMeaning S) (old mid new : S) (limit : ℕ) (p 
   numbered o v = let same : 1 + i ≡ i + 1 = omega arith in ap (λ k. verdict_text k o.goal v) same
 
   pub so_far_next : (u : Tally) (o : Obligation) (v : Verdict) (r : Result (Unit {0}) SinkFault) (x : Unit {0}) → SoFar sink old mid limit p s os i t → i < length os → o ≡ get_or os i o
-      → IsAnswered limit (enough p s o) (meaning_of p s o) v → Prints sink mid new r (text_of o v) → r ≡ Ok x
+      → IsJustified limit (enough p s o) (meaning_of p s o) v → Prints sink mid new r (text_of o v) → r ≡ Ok x
       → ((vs : List Verdict) → length vs ≡ length (take i os) → IsTally t vs → IsTally u (vs ++ v ∷ [])) → SoFar sink old new limit p s os (i + 1) u
   so_far_next u o v r x f h e j q is more = record {
     verdicts = f.verdicts ++ v ∷ [];
-    answered = subst (λ k. AreAnswered limit p s (take k os) (f.verdicts ++ v ∷ [])) (sym (add-one i)) (fine_more limit p s os i o f.verdicts v h e f.answered j);
+    justified = subst (λ k. AreJustified limit p s (take k os) (f.verdicts ++ v ∷ [])) (sym (add-one i)) (fine_more limit p s os i o f.verdicts v h e f.justified j);
     prints = subst (λ b. Prints {T = Unit {0}} sink old new (Ok tt) b)
-        (ap (λ b. lines_from 1 (take i os) f.verdicts ++ b) (sym (numbered o v)) ∙ sym (ap (λ k. lines_from 1 (take k os) (f.verdicts ++ v ∷ [])) (add-one i) ∙ lines_more limit p s 1 os i o f.verdicts v h e f.answered))
+        (ap (λ b. lines_from 1 (take i os) f.verdicts ++ b) (sym (numbered o v)) ∙ sym (ap (λ k. lines_from 1 (take k os) (f.verdicts ++ v ∷ [])) (add-one i) ∙ lines_more limit p s 1 os i o f.verdicts v h e f.justified))
         (Prints-then f.prints refl (subst (λ y. Prints sink mid new y (text_of o v)) is q));
-    counts = more f.verdicts (fine_length limit p s (take i os) f.verdicts f.answered) f.counts;
+    counts = more f.verdicts (fine_length limit p s (take i os) f.verdicts f.justified) f.counts;
   }
 
   pub so_far_stop : (o : Obligation) (v : Verdict) (r : Result (Unit {0}) SinkFault) (z : Result Tally SinkFault) (cause : SinkFault) → SoFar sink old mid limit p s os i t → i < length os → o ≡ get_or os i o
-      → IsAnswered limit (enough p s o) (meaning_of p s o) v → Prints sink mid new r (text_of o v) → r ≡ Err cause → z ≡ Err cause
+      → IsJustified limit (enough p s o) (meaning_of p s o) v → Prints sink mid new r (text_of o v) → r ≡ Err cause → z ≡ Err cause
       → PrintsVerdicts sink old new limit p s os (lines_from 1 os) z
   so_far_stop o v r z cause f h e j q is goes =
       let k = suc i in
       let rest = drop k os in
       let before = f.verdicts ++ v ∷ [] in
-      let fine = fine_more limit p s os i o f.verdicts v h e f.answered j in
+      let fine = fine_more limit p s os i o f.verdicts v h e f.justified j in
       let behind = map (λ _. verdict.GaveUp why.Memory) rest in
       let whole : take k os ++ rest ≡ os = take-append-drop k os in
       let lines = lines_append limit p s 1 (take k os) rest before behind fine in
-      let first = lines_more limit p s 1 os i o f.verdicts v h e f.answered in
+      let first = lines_more limit p s 1 os i o f.verdicts v h e f.justified in
       record {
         verdicts = before ++ behind;
-        answered = subst (λ l. AreAnswered limit p s l (before ++ behind)) whole (fine_append limit p s (take k os) rest before behind fine (given_up limit p s rest));
+        justified = subst (λ l. AreJustified limit p s l (before ++ behind)) whole (fine_append limit p s (take k os) rest before behind fine (given_up limit p s rest));
         prints = subst (λ b. Prints sink old new z b)
             (ap (λ b. b ++ lines_from (1 + length (take k os)) rest behind) (ap (λ b. lines_from 1 (take i os) f.verdicts ++ b) (sym (numbered o v)) ∙ sym first)
             ∙ sym lines ∙ ap (λ l. lines_from 1 l (before ++ behind)) whole)
@@ -260,7 +253,7 @@ so_far_end sink old new limit p s os i t h f =
     let prints = subst (λ l. Prints {T = Unit {0}} sink old new (Ok tt) (lines_from 1 l f.verdicts)) all f.prints in
     record {
       verdicts = f.verdicts;
-      answered = subst (λ l. AreAnswered limit p s l f.verdicts) all f.answered;
+      justified = subst (λ l. AreJustified limit p s l f.verdicts) all f.justified;
       prints = record { bytes = prints.bytes; calls = prints.calls; later = prints.later; failed = tt };
       counts = f.counts;
     }
@@ -277,7 +270,7 @@ counts_behind sink old mid new limit p s os r z t f e q same =
     let tally : IsTally t f.verdicts = subst (λ y. IfOk y (λ x. IsTally x f.verdicts)) e f.counts in
     record {
       verdicts = f.verdicts;
-      answered = f.answered;
+      justified = f.justified;
       prints = Prints-then f.prints e (q f.verdicts tally);
       counts = kept z same;
     }
@@ -290,7 +283,7 @@ pub counts_stop : {S : Type 0} (sink : SinkMeaning S) (old new : S) (limit : ℕ
     → PrintsVerdicts sink old new limit p s os (lines_from 1 os) r → r ≡ Err cause → z ≡ Err cause → PrintsVerdicts sink old new limit p s os (report os) z
 counts_stop sink old new limit p s os r z cause f e g = record {
   verdicts = f.verdicts;
-  answered = f.answered;
+  justified = f.justified;
   prints = Prints-stops (counts_text f.verdicts) f.prints e g;
   counts = subst (λ y. IfOk y (λ t. IsTally t f.verdicts)) (sym g) tt;
 }
@@ -300,24 +293,24 @@ counts_stop sink old new limit p s os r z cause f e g = record {
 -- the first obligations have their verdicts, which were counted
 pub record CountedSoFar (limit : ℕ) (p : Program) (s : Sets) (os : List Obligation) (i : ℕ) (t : Tally) : Type 0 where
   pub verdicts : List Verdict
-  pub answered : AreAnswered limit p s (take i os) verdicts
+  pub justified : AreJustified limit p s (take i os) verdicts
   pub counts : IsTally t verdicts
 
 pub counted_first : (limit : ℕ) (p : Program) (s : Sets) (os : List Obligation) (t : Tally) → IsTally t [] → CountedSoFar limit p s os 0 t
-counted_first limit p s os t h = record { verdicts = []; answered = tt; counts = h }
+counted_first limit p s os t h = record { verdicts = []; justified = tt; counts = h }
 
 pub counted_next : (limit : ℕ) (p : Program) (s : Sets) (os : List Obligation) (i : ℕ) (t u : Tally) (o : Obligation) (v : Verdict) → CountedSoFar limit p s os i t → i < length os
-    → o ≡ get_or os i o → IsAnswered limit (enough p s o) (meaning_of p s o) v
+    → o ≡ get_or os i o → IsJustified limit (enough p s o) (meaning_of p s o) v
     → ((vs : List Verdict) → length vs ≡ length (take i os) → IsTally t vs → IsTally u (vs ++ v ∷ [])) → CountedSoFar limit p s os (i + 1) u
 counted_next limit p s os i t u o v f h e j more = record {
   verdicts = f.verdicts ++ v ∷ [];
-  answered = subst (λ k. AreAnswered limit p s (take k os) (f.verdicts ++ v ∷ [])) (sym (add-one i)) (fine_more limit p s os i o f.verdicts v h e f.answered j);
-  counts = more f.verdicts (fine_length limit p s (take i os) f.verdicts f.answered) f.counts;
+  justified = subst (λ k. AreJustified limit p s (take k os) (f.verdicts ++ v ∷ [])) (sym (add-one i)) (fine_more limit p s os i o f.verdicts v h e f.justified j);
+  counts = more f.verdicts (fine_length limit p s (take i os) f.verdicts f.justified) f.counts;
 }
 
 pub counted_end : (limit : ℕ) (p : Program) (s : Sets) (os : List Obligation) (i : ℕ) (t : Tally) → length os ≤ i → CountedSoFar limit p s os i t → CountsVerdicts limit p s os t
 counted_end limit p s os i t h f = record {
   verdicts = f.verdicts;
-  answered = subst (λ l. AreAnswered limit p s l f.verdicts) (take_all i os h) f.answered;
+  justified = subst (λ l. AreJustified limit p s l f.verdicts) (take_all i os h) f.justified;
   counts = f.counts;
 }

@@ -1,5 +1,5 @@
 -- The verdicts of a report: the status that goes with them, and what was written of them.
-use Rattle.std.specs.Prelude.{◌≡◌, ℕ, ◌<◌, ◌≤◌, List, [], ◌∷◌, Result, IfOk, count_by, ◌⊎◌, if◌then◌else◌}
+use Rattle.std.specs.Prelude.{◌≡◌, ℕ, ◌≤◌, List, ◌∷◌, Result, IfOk, count_by, if◌then◌else◌}
 use Rattle.std.specs.List.{list_any}
 use Rattle.aq_prog.specs.declared.program.Program.{Program}
 use Rattle.aq_sets.specs.declared.sets.Sets.{Sets}
@@ -12,7 +12,7 @@ use Rattle.aq_obligations.specs.Obligations.{Meaning, IsTrueOf}
 use Rattle.aq_obligations.specs.Wide.{IsWide}
 use Rattle.aq_obligations.specs.declared.bound.Obligation.{Obligation}
 use Rattle.aq_report.specs.Texts.{is_verified, is_refuted, is_given_up}
-use Rattle.aq_report.specs.Verdicts.{IsJustified}
+use Rattle.aq_report.specs.Verdicts.{AreJustified}
 use Rattle.aq_report.specs.declared.verdict.Verdict.{Verdict}
 use Rattle.aq_report.specs.declared.verdict.Verdict.TheVariants as verdict
 use Rattle.aq_report.specs.declared.verdict.Why.TheVariants as why
@@ -33,31 +33,15 @@ Decides o (verdict.Refuted r) = IsTrueOf o → ⊥
 Decides o (verdict.GaveUp why.Memory) = Unit {0}
 Decides o (verdict.GaveUp w) = ⊥
 
--- it was given up for steps, or memory ran out
-abbrev pub IsStopped : Verdict → Type 0
-IsStopped v = (v ≡ verdict.GaveUp why.Steps) ⊎ (v ≡ verdict.GaveUp why.Memory)
-
--- A verdict under a limit of steps, where so many are enough: it decides the obligation where the limit is enough and each number
--- that it needs fits; where the limit isn't enough, the obligation was given up for steps.
-pub record IsDecided (limit most : ℕ) (o : Meaning) (v : Verdict) : Type 0 where
-  pub decides : most ≤ limit → (IsWide o → ⊥) → Decides o v
-  pub stops : limit < most → IsStopped v
+-- A verdict under a limit of steps, where so many are enough, decides the obligation where the limit is enough and each number
+-- that it needs fits.
+abbrev pub IsDecided : ℕ → ℕ → Meaning → Verdict → Type 0
+IsDecided limit most o v = most ≤ limit → (IsWide o → ⊥) → Decides o v
 
 -- each verdict is such a one
 abbrev pub AreDecided : ℕ → Program → Sets → List Obligation → List Verdict → Type 0
 AreDecided limit p s (o ∷ os) (v ∷ vs) = IsDecided limit (enough p s o) (meaning_of p s o) v × AreDecided limit p s os vs
 AreDecided limit p s _ _ = Unit {0}
-
--- a justified verdict, which stops where the limit isn't enough
-abbrev pub IsAnswered : ℕ → ℕ → Meaning → Verdict → Type 0
-IsAnswered limit most o v = IsJustified limit most o v × (limit < most → IsStopped v)
-
--- there is such a one for each obligation
-abbrev pub AreAnswered : ℕ → Program → Sets → List Obligation → List Verdict → Type 0
-AreAnswered limit p s [] [] = Unit {0}
-AreAnswered limit p s (o ∷ os) (v ∷ vs) = IsAnswered limit (enough p s o) (meaning_of p s o) v × AreAnswered limit p s os vs
-AreAnswered limit p s [] (v ∷ vs) = ⊥
-AreAnswered limit p s (o ∷ os) [] = ⊥
 
 -- it counts the verdicts
 pub record IsTally (t : Tally) (verdicts : List Verdict) : Type 0 where
@@ -70,19 +54,19 @@ pub record IsTally (t : Tally) (verdicts : List Verdict) : Type 0 where
 pub record PrintsVerdicts {S : Type 0} (sink : SinkMeaning S) (old new : S) (limit : ℕ) (p : Program) (s : Sets) (os : List Obligation) (text : List Verdict → List ℕ)
     (result : Result Tally SinkFault) : Type 0 where
   pub verdicts : List Verdict
-  pub answered : AreAnswered limit p s os verdicts
+  pub justified : AreJustified limit p s os verdicts
   pub prints : Prints sink old new result (text verdicts)
   pub counts : IfOk result (λ t. IsTally t verdicts)
 
 -- There is a justified verdict for each obligation, and these are counted.
 pub record CountsVerdicts (limit : ℕ) (p : Program) (s : Sets) (os : List Obligation) (t : Tally) : Type 0 where
   pub verdicts : List Verdict
-  pub answered : AreAnswered limit p s os verdicts
+  pub justified : AreJustified limit p s os verdicts
   pub counts : IsTally t verdicts
 
 -- There is a justified verdict for each obligation, and the run ended with a text of the verdicts.
 pub record EndsWithVerdicts {S : Type 0} (sink : SinkMeaning S) (old new : S) (limit : ℕ) (p : Program) (s : Sets) (os : List Obligation) (text : List Verdict → List ℕ)
     (result : Status) : Type 0 where
   pub verdicts : List Verdict
-  pub answered : AreAnswered limit p s os verdicts
+  pub justified : AreJustified limit p s os verdicts
   pub ends : Ends sink old new (IsText (verdicts_status verdicts) (text verdicts)) result

@@ -2,7 +2,6 @@
 ghost use Rattle.std.specs.Prelude.{◌≡◌, ◌≤◌, All, IfOk, IfErr};
 ghost use Rattle.aq_base.specs.Limits.{most_steps_asked};
 ghost use Rattle.aq_prog.specs.Programs.{IsValidProgram};
-ghost use Rattle.aq_sets.specs.Caps.{capped_sizes};
 ghost use Rattle.aq_sets.specs.Valid.{IsValidSets};
 ghost use Rattle.aq_obligations.specs.Bound.{IsBoundObligation};
 ghost use Rattle.aq_owing.specs.Made.{are_too_many, made_obligations, owed_by};
@@ -22,14 +21,10 @@ use crate::read::{load_program, load_sets};
 use crate::say::say_refusal;
 use crate::status::Status;
 use aq_correct::laws::worlds;
-use aq_obligations::Obligation;
 use aq_owing::{ObligationFault, make};
-use aq_prog::Program;
 use aq_report::Refusal;
-use aq_sets::{Sets, Size, sizes_of};
 use aq_words::CheckWords;
 use aq_world::{Shelf, Sink};
-use sqlite_items::Items;
 use std::alloc::Global;
 
 /// Tells why a program has no obligations.
@@ -47,26 +42,6 @@ pub(crate) fn refused_obligations<'a>(fault: ObligationFault) -> Refusal<'a>
     }
 }
 
-/// The sizes of the sets, and what the program owes between the two claims.
-pub(crate) fn make_sized(
-    alloc: Global,
-    program: &Program,
-    sets: &Sets,
-    pre: &[u8],
-    post: &[u8],
-) -> Result<(Items<Size>, Items<Obligation>), ObligationFault>
-    requires program { IsValidProgram program.now }
-    requires sets { IsValidSets sets.now }
-    ensures sizes { IfOk result (λ x. x.0 ≡ capped_sizes sets.now.exprs) }
-    ensures made { IfOk result (λ x. made_obligations program.now sets.now pre.now post.now ≡ Ok x.1) }
-    ensures bound { IfOk result (λ x. All (IsBoundObligation program.now sets.now) x.1) }
-    ensures fault { IfErr result (ObligationFaultOf program.now sets.now pre.now post.now) }
-{
-    let obligations = make(alloc, program, sets, pre, post)?;
-    let sizes = sizes_of(alloc, sets)?;
-    Ok((sizes, obligations))
-}
-
 /// Reads the program, then the sets, and makes the obligations.
 fn load<'a, S: Shelf>(
     alloc: Global,
@@ -77,7 +52,6 @@ fn load<'a, S: Shelf>(
         l.sets l.obligations) }
     ensures program { IfOk result (λ l. IsValidProgram l.program) }
     ensures sets { IfOk result (λ l. IsValidSets l.sets) }
-    ensures sizes { IfOk result (λ l. l.sizes ≡ capped_sizes l.sets.exprs) }
     ensures bound { IfOk result (λ l. All (IsBoundObligation l.program l.sets) l.obligations) }
     ensures cause { IfErr result (CheckCause (S.meaning.holds shelf.old) (ReadFailedOf S.meaning shelf.old shelf.new)
         (check_of words.entry.now)) }
@@ -85,17 +59,16 @@ fn load<'a, S: Shelf>(
 {
     let program = load_program(alloc, words.program.as_str(), shelf)?;
     let sets = load_sets(alloc, words.sets.as_str(), shelf)?;
-    match make_sized(
+    match make(
         alloc,
         &program,
         &sets,
         words.pre.as_str().as_bytes(),
         words.post.as_str().as_bytes(),
     ) {
-        Ok((sizes, obligations)) => Ok(Loaded {
+        Ok(obligations) => Ok(Loaded {
             program,
             sets,
-            sizes,
             obligations,
         }),
         Err(fault) => Err(refused_obligations(fault)),

@@ -2,31 +2,32 @@
 ghost use Rattle.std.specs.Prelude.{◌≡◌, ◌≤◌, ◌++◌, ◌∷◌, [], All, IfOk, List, length};
 ghost use Rattle.aq_base.specs.Limits.{most_obligations, most_steps_asked};
 ghost use Rattle.aq_prog.specs.Programs.{IsValidProgram};
-ghost use Rattle.aq_sets.specs.Caps.{capped_sizes};
 ghost use Rattle.aq_sets.specs.Valid.{IsValidSets};
+ghost use Rattle.aq_obligations.specs.Asking.{meaning_of};
 ghost use Rattle.aq_obligations.specs.Bound.{IsBoundObligation};
+ghost use Rattle.aq_obligations.specs.Enough.{enough};
 ghost use Rattle.aq_world.specs.Prints.{Prints};
 ghost use Rattle.aq_report.specs.Texts.{counts_text, lines_from, report};
+ghost use Rattle.aq_report.specs.Verdicts.{IsJustified};
 ghost use Rattle.aq_report.specs.declared.verdict.Verdict.{Verdict as VerdictValue};
 ghost use Rattle.aq_top.specs.Ends.{status_of};
 ghost use Rattle.aq_top.specs.Judging.{CountsVerdicts, EndsWithVerdicts, IsTally, PrintsVerdicts, verdicts_status};
 
 use crate::status::Status;
-use aq_judge::judge_by_sizes;
+use aq_judge::{Judged, judge};
 use aq_obligations::Obligation;
 use aq_prog::Program;
 use aq_report::{Verdict, print_summary, print_verdict};
-use aq_sets::{Sets, Size};
+use aq_sets::Sets;
 use aq_world::{Sink, SinkFault};
 use sqlite_items::Items;
 use std::alloc::Global;
 
-/// A program with its sets, their sizes and its obligations.
+/// A program with its sets and its obligations.
 #[derive(Debug, Drop)]
 pub(crate) struct Loaded {
     pub(crate) program: Program,
     pub(crate) sets: Sets,
-    pub(crate) sizes: Items<Size>,
     pub(crate) obligations: Items<Obligation>,
 }
 
@@ -91,11 +92,26 @@ fn no_verdicts() -> Tally
     }
 }
 
+/// The verdict on one of the obligations.
+fn verdict_on(alloc: Global, loaded: &Loaded, obligation: &Obligation, limit: u64) -> Verdict
+    requires program { IsValidProgram loaded.now.program }
+    requires sets { IsValidSets loaded.now.sets }
+    requires bound { IsBoundObligation loaded.now.program loaded.now.sets obligation.now }
+    requires limit { limit ≤ most_steps_asked }
+    ensures { IsJustified limit (enough loaded.now.program loaded.now.sets obligation.now)
+        (meaning_of loaded.now.program loaded.now.sets obligation.now) result }
+{
+    let Judged {
+        verdict,
+        certs: _certs,
+    } = judge(alloc, &loaded.program, &loaded.sets, obligation, limit);
+    verdict
+}
+
 /// Judges the obligations in order, and counts the verdicts.
 pub(crate) fn count_verdicts(alloc: Global, loaded: &Loaded, limit: u64) -> Tally
     requires program { IsValidProgram loaded.now.program }
     requires sets { IsValidSets loaded.now.sets }
-    requires told { loaded.now.sizes ≡ capped_sizes loaded.now.sets.exprs }
     requires bound { All (IsBoundObligation loaded.now.program loaded.now.sets) loaded.now.obligations }
     requires few { length loaded.now.obligations ≤ most_obligations }
     requires limit { limit ≤ most_steps_asked }
@@ -103,14 +119,7 @@ pub(crate) fn count_verdicts(alloc: Global, loaded: &Loaded, limit: u64) -> Tall
 {
     let mut counts = no_verdicts();
     for owed in loaded.obligations.as_slice() {
-        let verdict = judge_by_sizes(
-            alloc,
-            &loaded.program,
-            &loaded.sets,
-            loaded.sizes.as_slice(),
-            owed,
-            limit,
-        );
+        let verdict = verdict_on(alloc, loaded, owed, limit);
         counts = counted(counts, &verdict);
     }
     counts
@@ -125,7 +134,6 @@ fn print_verdicts<K: Sink>(
 ) -> Result<Tally, SinkFault>
     requires program { IsValidProgram loaded.now.program }
     requires sets { IsValidSets loaded.now.sets }
-    requires told { loaded.now.sizes ≡ capped_sizes loaded.now.sets.exprs }
     requires bound { All (IsBoundObligation loaded.now.program loaded.now.sets) loaded.now.obligations }
     requires few { length loaded.now.obligations ≤ most_obligations }
     requires steps { steps ≤ most_steps_asked }
@@ -138,14 +146,7 @@ fn print_verdicts<K: Sink>(
         gave_up: 0,
     };
     for (index, obligation) in loaded.obligations.as_slice().iter().enumerate() {
-        let verdict = judge_by_sizes(
-            alloc,
-            &loaded.program,
-            &loaded.sets,
-            loaded.sizes.as_slice(),
-            obligation,
-            steps,
-        );
+        let verdict = verdict_on(alloc, loaded, obligation, steps);
         print_verdict(out, index as u32 + 1, &obligation.goal, &verdict)?;
         tally = counted(tally, &verdict);
     }
@@ -171,7 +172,6 @@ fn print_report<K: Sink>(
 ) -> Result<Tally, SinkFault>
     requires program { IsValidProgram loaded.now.program }
     requires sets { IsValidSets loaded.now.sets }
-    requires told { loaded.now.sizes ≡ capped_sizes loaded.now.sets.exprs }
     requires bound { All (IsBoundObligation loaded.now.program loaded.now.sets) loaded.now.obligations }
     requires few { length loaded.now.obligations ≤ most_obligations }
     requires steps { steps ≤ most_steps_asked }
@@ -198,7 +198,6 @@ fn report_status(printed: Result<Tally, SinkFault>) -> Status
 pub(crate) fn say_report<K: Sink>(alloc: Global, loaded: &Loaded, steps: u64, out: &mut K) -> Status
     requires program { IsValidProgram loaded.now.program }
     requires sets { IsValidSets loaded.now.sets }
-    requires told { loaded.now.sizes ≡ capped_sizes loaded.now.sets.exprs }
     requires bound { All (IsBoundObligation loaded.now.program loaded.now.sets) loaded.now.obligations }
     requires few { length loaded.now.obligations ≤ most_obligations }
     requires steps { steps ≤ most_steps_asked }

@@ -1,7 +1,6 @@
 //! The command `trial N`.
 ghost use Rattle.std.specs.Prelude.{◌≡◌, ◌≤◌, All, IfErr, IfOk, List};
 ghost use Rattle.aq_prog.specs.Programs.{IsValidProgram};
-ghost use Rattle.aq_sets.specs.Caps.{capped_sizes};
 ghost use Rattle.aq_sets.specs.Valid.{IsValidSets};
 ghost use Rattle.aq_elab.specs.Texts.{SaysProgram};
 ghost use Rattle.aq_set_read.specs.Texts.{SaysSets};
@@ -24,7 +23,7 @@ ghost use Rattle.aq_top.specs.Trial.{
   trial_sets,
 };
 
-use crate::check::{make_sized, refused_obligations};
+use crate::check::refused_obligations;
 use crate::judging::{Loaded, Tally, count_verdicts, tally_status};
 use crate::read::{refused_program, refused_sets};
 use crate::say::{say_refusal, status_after};
@@ -32,6 +31,7 @@ use crate::status::Status;
 use aq_base::{MOST_PROGRAM_BYTES, MOST_SETS_BYTES, MOST_STEPS};
 use aq_correct::laws::worlds;
 use aq_elab::read_program;
+use aq_owing::make;
 use aq_prog::Program;
 use aq_report::Refusal;
 use aq_set_read::read_sets;
@@ -75,17 +75,15 @@ fn load_texts<'a>(alloc: Global, texts: &TrialTexts) -> Result<Loaded, Refusal<'
     ensures read { IfOk result (λ l. OwesBetween texts.now.program texts.now.sets l.program l.sets l.obligations) }
     ensures program { IfOk result (λ l. IsValidProgram l.program) }
     ensures sets { IfOk result (λ l. IsValidSets l.sets) }
-    ensures sizes { IfOk result (λ l. l.sizes ≡ capped_sizes l.sets.exprs) }
     ensures bound { IfOk result (λ l. All (IsBoundObligation l.program l.sets) l.obligations) }
     ensures cause { IfErr result (TextsCause texts.now.program texts.now.sets) }
 {
     let program = program_in(alloc, texts.program.as_slice())?;
     let sets = sets_in(alloc, texts.sets.as_slice())?;
-    match make_sized(alloc, &program, &sets, b"pre", b"post") {
-        Ok((sizes, obligations)) => Ok(Loaded {
+    match make(alloc, &program, &sets, b"pre", b"post") {
+        Ok(obligations) => Ok(Loaded {
             program,
             sets,
-            sizes,
             obligations,
         }),
         Err(fault) => Err(refused_obligations(fault)),
@@ -99,7 +97,6 @@ fn load_trial<'a>(alloc: Global, number: u32) -> Result<Loaded, Refusal<'a>>
         l.obligations) }
     ensures program { IfOk result (λ l. IsValidProgram l.program) }
     ensures sets { IfOk result (λ l. IsValidSets l.sets) }
-    ensures sizes { IfOk result (λ l. l.sizes ≡ capped_sizes l.sets.exprs) }
     ensures bound { IfOk result (λ l. All (IsBoundObligation l.program l.sets) l.obligations) }
     ensures cause { IfErr result (TrialCause number) }
 {

@@ -10,9 +10,9 @@ unreachable-requires c =
 pub unreachable-requires-in-Err-Impossible : goal.unreachable-requires-in-Err-Impossible
 unreachable-requires-in-Err-Impossible c =
     let d = rw c.in-Err-Impossible.field-0-is at c.in-Err-Impossible.ensures in
-    dead_from c.args.body.now c.args.bits.now c.args.outcomes.now c.in_ok-start.start c.args.state.now c.in-Err-Impossible.field-0-0 c.in_ok-start.ensures c.requires.ends d.1
+    dead_from c.args.body.now c.args.bits.now c.args.outcomes.now c.in-Ok.start c.args.state.now c.in-Err-Impossible.field-0-0 c.in-Ok.ensures c.requires.ends d.1
 
 pub returns-in-Err-Wide-clause-err : goal.returns-in-Err-Wide-clause-err
 returns-in-Err-Wide-clause-err c =
     let w = rw c.in-Err-Wide.field-0-is at c.in-Err-Wide.ensures in
-    wide_from c.args.body.now c.args.bits.now c.args.outcomes.now c.in_ok-start.start c.args.state.now c.in-Err-Wide.field-0-0 c.in-Err-Wide.field-0-1 c.in_ok-start.ensures w.0 w.1
+    wide_from c.args.body.now c.args.bits.now c.args.outcomes.now c.in-Ok.start c.args.state.now c.in-Err-Wide.field-0-0 c.in-Err-Wide.field-0-1 c.in-Ok.ensures w.0 w.1

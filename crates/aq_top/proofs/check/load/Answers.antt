@@ -33,6 +33,6 @@ returns-clause-cause g c =
       sets = s;
       sets_read = subst (λ (n : List ℕ). ReadsSets told n s) c.as_str-2.ensures.value (subst (λ (h : Option Held). ReadsSets h c.as_str-2.result.now s) c.load_program.ensures.held c.in_ok-sets.ensures.read);
       first = f;
-      fault = subst (λ (b : List ℕ). ObligationFaultOf p s w.pre b f) post (subst (λ (a : List ℕ). ObligationFaultOf p s a c.as_bytes-2.result.now f) pre c.in-Err.ensures.fault);
+      fault = subst (λ (b : List ℕ). ObligationFaultOf p s w.pre b f) post (subst (λ (a : List ℕ). ObligationFaultOf p s a c.as_bytes-2.result.now f) pre c.in-Err.ensures.made);
       tells = c.refused_obligations.ensures;
     }))

@@ -12,7 +12,6 @@ loop-owed-preserved c =
     let same = c.as_slice-owed-items.ensures in
     let within = subst (λ (xs : List Obligation). i < length xs) same c.loop-owed-test.true in
     let there = c.owed-item.is ∙ ap (λ (xs : List Obligation). get_or xs i o) same in
-    let judged = c.judge_by_sizes-verdict in
-    counted_next c.args.limit l.program l.sets os i c.loop-owed.counts c.counted-counts.result o judged.result c.loop-owed.invariant within there
-    (judged.ensures.justified, judged.ensures.steps)
+    counted_next c.args.limit l.program l.sets os i c.loop-owed.counts c.counted-counts.result o c.verdict_on-verdict.result c.loop-owed.invariant within there
+    c.verdict_on-verdict.ensures
     (λ vs e h. c.counted-counts.ensures vs (few_so_far os i vs c.requires.few e) h)

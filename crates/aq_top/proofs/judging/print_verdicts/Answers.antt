@@ -17,7 +17,7 @@ loop-index-preserved g c =
     let within = subst (λ (xs : List Obligation). i < length xs) same c.loop-index-test.true in
     let there = c.obligation-item.is ∙ ap (λ (xs : List Obligation). get_or xs i o) same in
     so_far_next g.K.Sink.meaning c.args.out.now c.loop-index.out c.print_verdict.new.out c.args.steps l.program l.sets os i c.loop-index.tally c.counted-tally.result o
-    c.judge_by_sizes-verdict.result c.print_verdict.result _ c.loop-index.invariant within there (c.judge_by_sizes-verdict.ensures.justified, c.judge_by_sizes-verdict.ensures.steps) c.print_verdict.ensures c.in_ok-print_verdict.was
+    c.verdict_on-verdict.result c.print_verdict.result _ c.loop-index.invariant within there c.verdict_on-verdict.ensures c.print_verdict.ensures c.in_ok-print_verdict.was
     (λ vs e h. c.counted-tally.ensures vs (few_so_far os i vs c.requires.few e) h)
 
 pub returns-in_err-print_verdict : goal.returns-in_err-print_verdict
@@ -31,5 +31,5 @@ returns-in_err-print_verdict g c =
     let within = subst (λ (xs : List Obligation). i < length xs) same c.loop-index-test.true in
     let there = c.obligation-item.is ∙ ap (λ (xs : List Obligation). get_or xs i o) same in
     so_far_stop g.K.Sink.meaning c.args.out.now c.loop-index.out c.print_verdict.new.out c.args.steps l.program l.sets os i c.loop-index.tally o
-    c.judge_by_sizes-verdict.result c.print_verdict.result c.from_residual.result c.in_err-print_verdict.field-0.0 c.loop-index.invariant within there
-    (c.judge_by_sizes-verdict.ensures.justified, c.judge_by_sizes-verdict.ensures.steps) c.print_verdict.ensures c.in_err-print_verdict.was (p.1 ∙ ap (λ e. Err e) p.2)
+    c.verdict_on-verdict.result c.print_verdict.result c.from_residual.result c.in_err-print_verdict.field-0.0 c.loop-index.invariant within there
+    c.verdict_on-verdict.ensures c.print_verdict.ensures c.in_err-print_verdict.was (p.1 ∙ ap (λ e. Err e) p.2)

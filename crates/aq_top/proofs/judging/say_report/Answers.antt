@@ -6,6 +6,6 @@ returns g c =
     let e = c.print_report.ensures in
     record {
       verdicts = e.verdicts;
-      answered = e.answered;
+      justified = e.justified;
       ends = Prints-ends _ _ _ _ _ _ _ e.prints (c.report_status.ensures e.verdicts e.counts);
     }

@@ -1,0 +1,7 @@
+pub mod SearchLaws
+pub mod CompareLaws
+pub mod ListingLaws
+pub mod RunLaws
+pub mod ShowLaws
+pub mod JudgeLaws
+mod ExampleLaws
