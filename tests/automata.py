@@ -21,7 +21,7 @@ ENDS = ("same", "different", "unread", "unfinished")
 # the crates that the driver names
 CRATES = (
     "aq_ring aq_prog aq_plain aq_elab aq_sets aq_set_read aq_obligations aq_owing aq_store aq_gate_ops aq_set_build aq_symbolic"
-    " aq_decide aq_world aq_worlds aq_judge aq_report sqlite_items"
+    " aq_judge aq_world aq_worlds aq_plain_judge aq_report sqlite_items"
 ).split()
 TELEPORTED = (
     b'OPENQASM 3.0;\ninclude "stdgates.inc";\nbit[2] c;\nqubit[3] q;\nh q[1];\ncx q[1], q[2];\ncx q[0], q[1];\nh q[0];\n'

@@ -188,24 +188,17 @@ checked(
     ),
     1,
 )
-# 8 * 2^17 * (1 * (14 + 1) + (2 + 2)) = 19,922,944 steps are enough for 13 gates, and 20,971,520 for 14
-checked(
-    "half of the kets of sixteen qubits, in as many gates as there may be",
-    calls(16, *["h q[%d];" % i for i in range(13)]),
-    claims("|" + "0" * 16 + ">", "|" + "0" * 16 + ">"),
-    refuted(
-        [("0" * 16, "(1,0,0,0)/0")],
-        [(format(index, "013b") + "000", "(1,0,0,0)/13") for index in range(8192)],
-    ),
-    1,
-)
-checked(
-    "a gate more",
-    calls(16, *["h q[%d];" % i for i in range(14)]),
-    claims("|" + "0" * 16 + ">", "|" + "0" * 16 + ">"),
-    GAVE_UP_STEPS,
-    2,
-)
+for gates in (13, 14):
+    checked(
+        "so many kets of sixteen qubits: 2^%d" % gates,
+        calls(16, *["h q[%d];" % i for i in range(gates)]),
+        claims("|" + "0" * 16 + ">", "|" + "0" * 16 + ">"),
+        refuted(
+            [("0" * 16, "(1,0,0,0)/0")],
+            [(format(index << (16 - gates), "016b"), "(1,0,0,0)/%d" % gates) for index in range(2**gates)],
+        ),
+        1,
+    )
 checked(
     "bits that no statement uses",
     "bit c; qubit q; creg d[2]; x q;",

@@ -26,7 +26,7 @@ def explained(copy):
     copy.write("wrong.qasm", BELL)
     copy.write("wrong.sets", WRONG_SETS)
     copy.write("long.qasm", "qubit[8] q;\nx q;\n")
-    copy.write("long.sets", "claim pre = all 8; claim post = all 8;")
+    copy.write("long.sets", "set s0 = all 8;\n" + "".join("set s%d = s%d union s%d;\n" % (n, n - 1, n - 1) for n in range(1, 40)) + "claim pre = s39; claim post = all 8;")
     text = b""
     for name in ("a fault", "wrong", "long"):
         text += copy.run(["check", name + ".qasm", name + ".sets"])[2]

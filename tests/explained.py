@@ -334,7 +334,8 @@ def asserted(copy):
 def given_up(copy):
     """The help says the same check with ten times the steps."""
     program = "qubit[8] q;\nx q;\n\n"
-    _, out, lines = verdict_lines(copy, program, "claim pre = all 8; claim post = all 8;")
+    doubled = "set s0 = all 8;\n" + "".join("set s%d = s%d union s%d;\n" % (n, n - 1, n - 1) for n in range(1, 40))
+    _, out, lines = verdict_lines(copy, program, doubled + "claim pre = s39; claim post = all 8;")
     wanted = ["P:2:1: warning: gave up steps: " + SENTENCES["gave up steps"], "  x q;", "  ^"]
     again = "`%r check P S --steps 200000000`" % copy.launcher in lines[3]
     return (out.split("\n")[0], lines[:3], again), ("1 post: gave up steps", wanted, True)

@@ -3,7 +3,7 @@
 Each expected text was worked out by hand from docs/, never taken from what the program printed.
 """
 
-from cases import GAVE_UP_STEPS, GAVE_UP_WIDTH, MOST_PROGRAM, MOST_SETS, PROGRAM_TOO_LONG, SETS_TOO_LONG, USAGE, VERIFIED
+from cases import GAVE_UP_WIDTH, MOST_PROGRAM, MOST_SETS, PROGRAM_TOO_LONG, SETS_TOO_LONG, USAGE, VERIFIED
 from programs import I, MINUS, ONE, ROOT
 from sets import BIG, DOUBLED, MOST, W, claims
 
@@ -208,24 +208,23 @@ PSI = "set psi = [|0> + w|1>];\n"
 ENDS = ", ".join("[|%d%d>] * psi when c[0] == %d and c[1] == %d" % (a, b, a, b) for a in (0, 1) for b in (0, 1))
 verified("teleportation", TELEPORTATION, "psi * [|00>]", ENDS, PSI)
 
-# ---- steps: 8 * (2^(M+U) * W * 2^(n+1) * (L + V) + 2^(n+1) * X) are enough, and 20,000,000 are allowed. For one qubit and [|0>]
-# on both sides that is 32 * 2^(M+U) * (L + 1) + 128, where L is 1 more than the statements.
+# ---- steps: 8 * (2^(M+U) * W * 2^(n+1) * (L + V) + 2^(n+1) * X) are enough, and 20,000,000 are allowed; what is taken is mostly
+# far less. For one qubit and [|0>] on both sides 32 * 2^(M+U) * (L + 1) + 128 are enough, where L is 1 more than the statements.
 
 # 32 * 2^15 * 17 + 128 = 17,825,920
 verified("fifteen measurements", "qubit q;" + "measure q;" * 15, "[|0>]", "[|0>]")
-# 32 * 2^16 * 18 + 128 = 37,748,864
-gives_up("sixteen measurements", "qubit q;" + "measure q;" * 16, "[|0>]", "[|0>]", GAVE_UP_STEPS)
+# 32 * 2^16 * 18 + 128 = 37,748,864, and one world
+verified("sixteen measurements", "qubit q;" + "measure q;" * 16, "[|0>]", "[|0>]")
 verified("resets and measurements", "qubit q;" + "reset q;" * 8 + "measure q;" * 7, "[|0>]", "[|0>]")
-gives_up("resets count like measurements", "qubit q;" + "reset q;" * 8 + "measure q;" * 8, "[|0>]", "[|0>]", GAVE_UP_STEPS)
-# 32 * 2^(14+1) * 19 + 128 = 19,923,072, and with a statement more 20,971,648
+verified("more resets and measurements", "qubit q;" + "reset q;" * 8 + "measure q;" * 8, "[|0>]", "[|0>]")
 BRANCHED = "qubit q; bit[2] c;" + "measure q;" * 14 + "if (c[0]) { x q; %s }"
 verified("a bit that a branch reads", BRANCHED % "z q;", "[|0>]", "[|0>]")
 verified("a bit that a branch and a condition name counts once", BRANCHED % "z q;", "[|0>] when c[0] == 0", "[|0>] when c[0] == 0")
-gives_up("a statement more in the branch", BRANCHED % "z q; z q;", "[|0>]", "[|0>]", GAVE_UP_STEPS)
-gives_up("another bit in a branch", BRANCHED % "if (c[1]) { }", "[|0>]", "[|0>]", GAVE_UP_STEPS)
-gives_up("another bit in a condition", BRANCHED % "", "[|0>]", "[|0>] when c[1] == 0", GAVE_UP_STEPS)
-gives_up("measurements in a branch that isn't taken", "qubit q; bit c;" + "if (c) { " + "measure q;" * 16 + " }", "[|0>]", "[|0>]", GAVE_UP_STEPS)
-gives_up("steps come before width", "qubit q; h q;" + "measure q;" * 16, BIG, "[|0>]", GAVE_UP_STEPS)
+verified("a statement more in the branch", BRANCHED % "z q; z q;", "[|0>]", "[|0>]")
+verified("another bit in a branch", BRANCHED % "if (c[1]) { }", "[|0>]", "[|0>]")
+verified("another bit in a condition", BRANCHED % "", "[|0>]", "[|0>] when c[1] == 0")
+verified("measurements in a branch that isn't taken", "qubit q; bit c;" + "if (c) { " + "measure q;" * 16 + " }", "[|0>]", "[|0>]")
+gives_up("width before many measurements", "qubit q; h q;" + "measure q;" * 16, BIG, "[|0>]", GAVE_UP_WIDTH)
 
 # ---- width: of gates that are played, on states that there are
 
@@ -396,6 +395,7 @@ EXAMPLES = [
     ("superdense", VERIFIED, 0),
     ("entanglement_swapping", VERIFIED, 0),
     ("bit_flip_code", VERIFIED, 0),
+    ("code_of_four", VERIFIED, 0),
     ("bit_flip_code_exchanged", refutation("00", THIRD, "01", "01", FIRST_TOO), 1),
     ("reused_work", VERIFIED, 0),
     ("reused_work_stale", refutation("00", SECOND, "100", "10", SECOND), 1),

@@ -19,6 +19,8 @@ import set_language
 LIMIT = 2**127
 MOST_POWER = 2**32 - 1
 MOST_STEPS = 20000000
+# where more are enough, the lists are too long
+MOST_WORK = 2**26
 MOST_OBLIGATIONS = 1000
 # statements of all fragments
 MOST_FRAGMENTS = 2000000
@@ -317,6 +319,10 @@ def enough(qubits, owed):
 # ---- claims
 
 
+class TooMuch(Exception):
+    """So many vectors and worlds aren't listed."""
+
+
 class TextRefused(Exception):
     """A text is refused by this line."""
 
@@ -586,11 +592,13 @@ def shown(qubits, world, state, end):
 
 
 def verdicts(bits, qubits, owed):
-    """What a judge may say of an obligation: verified, refuted or gave up, and what is printed behind its head. Too many steps
-    come before all else. Where some number of the obligation doesn't fit, it may give up for width; it needn't, where it knows
-    better from numbers that fit."""
-    if MOST_STEPS < enough(qubits, owed):
-        return [("gave up", " steps\n")]
+    """What a judge may say of an obligation: verified, refuted or gave up, and what is printed behind its head. Where the steps
+    that are enough aren't allowed, it may give up for steps. Where some number of the obligation doesn't fit, it may give up for
+    width; it needn't, where it knows better from numbers that fit."""
+    most = enough(qubits, owed)
+    if MOST_WORK < most:
+        raise TooMuch
+    gave_up = [("gave up", " steps\n")] if MOST_STEPS < most else []
     lists = [[(vectors(expr), conditions) for expr, conditions in cases] for cases in (owed.source, owed.goal)]
     is_wide = not all(fits for cases in lists for (_, fits), _ in cases)
     source, goal = ([(listed, conditions) for (listed, _), conditions in cases] for cases in lists)
@@ -598,7 +606,7 @@ def verdicts(bits, qubits, owed):
     is_wide = is_wide or any(end is None for world in worlds for end in world.ends)
     worlds = [world for world in worlds if not world.blocked]
     is_wide = is_wide or any(has_wide_comparison(world, goal) for world in worlds)
-    found = [("gave up", " width\n")] if is_wide else []
+    found = gave_up + ([("gave up", " width\n")] if is_wide else [])
     try:
         first = escape(worlds, goal)
     except Wide:
@@ -643,7 +651,8 @@ def count_bits(registers):
 
 
 def answers(program, sets):
-    """What may be printed by `check` for two texts, each with its status; there is one, but where numbers don't fit."""
+    """What may be printed by `check` for two texts, each with its status; there is one, but where numbers don't fit or the steps
+    that are enough aren't allowed. It raises TooMuch where that is too much for lists."""
     try:
         read = read_program(program)
         claims = asked(read, read_sets(sets)[0])
