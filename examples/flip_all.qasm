@@ -1,4 +1,4 @@
 OPENQASM 3.0;
 include "stdgates.inc";
-qubit[8] q;
+qubit[16] q;
 x q;
