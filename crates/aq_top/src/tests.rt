@@ -166,11 +166,12 @@ fn reports(rt: HostRuntime) -> Result<(), Fail> {
             end bits 1\n  end |1> (1,0,0,0)/0\nverified 1, refuted 1, gave up 0\n",
             1,
         ),
+        // More states than lists of vectors can hold.
         (
             b"qubit[16] q; x q;",
             b"claim pre = all 16; claim post = all 16;",
-            b"1 post: gave up steps\nverified 0, refuted 0, gave up 1\n",
-            2,
+            b"1 post: verified\nverified 1, refuted 0, gave up 0\n",
+            0,
         ),
     ];
     for (row, (program, sets, wanted, code)) in rows.iter().enumerate() {
