@@ -12,9 +12,9 @@ from drawn import drawn_dynamic, drawn_looped, drawn_pair
 TOP = os.path.dirname(os.path.dirname(os.path.abspath(__file__)))
 DRIVER = os.path.join(TOP, "tests", "automata_driver.txt")
 SECONDS = 1800
-DYNAMIC = 100
-LOOPED = 60
-PAIRS = 60
+DYNAMIC = 160
+LOOPED = 110
+PAIRS = 110
 # so many cases are played in a run, which is not to take long
 PART = 75
 ENDS = ("same", "different", "unread", "unfinished")
@@ -31,7 +31,7 @@ TELEPORTED = (
 KINDS = ("words of sets", "wide sets", "gates", "wide gates", "worlds", "wide fragments", "runs")
 KINDS += ("obligations that hold", "obligations that don't", "obligations given up for width by both")
 # at the least
-WANTED = (1500, 4, 2000, 30, 600, 10, 1000, 300, 100, 10)
+WANTED = (3500, 6, 3500, 70, 1200, 20, 1700, 850, 200, 20)
 # by only one of both
 MOST_UNLIKE = 25
 
