@@ -15,7 +15,7 @@ use Rattle.aq_include.specs.declared.step.Candidate.{Candidate}
 use Rattle.aq_store.specs.declared.store.Stop.{Stop}
 use Rattle.aq_store.specs.declared.store.Stop.TheVariants as stop
 use Rattle.aq_include.specs.Costs.{Takes, IsCause}
-use Rattle.aq_include.specs.Kinds.{IsHopeless}
+use Rattle.aq_include.specs.Hopeless.{IsHopeless}
 use Rattle.aq_include.specs.Candidates.{IsWithin, Thins, ArePairChildren, IsCandidate, IsCandidateAt, Offers, AreOfRel}
 use Rattle.aq_cert.proofs.MemberLemmas.{of-get}
 

@@ -11,7 +11,7 @@ pub mod StepLemmas
 pub mod OwnLemmas
 pub mod BudgetLemmas
 pub mod EndLemmas
-pub mod KindLemmas
+pub mod HopelessLemmas
 pub mod StandLemmas
 pub mod SearchLemmas
 pub mod TurnLemmas

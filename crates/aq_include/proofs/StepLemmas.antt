@@ -33,7 +33,7 @@ use Rattle.aq_include.proofs.ChildLemmas.{child-of, child-listed}
 use Rattle.aq_include.specs.Costs.{Takes, IsCause, rel_weight, size}
 use Rattle.aq_store.specs.Words.{words}
 use Rattle.aq_include.specs.Candidates.{Thins, AreChildren, ArePairChildren, IsCandidate, IsCandidateAt, Offers, AreOfRel, IsStepOfSome, AreOfRels, IsOwnOf, Suffice, IsStepped}
-use Rattle.aq_include.specs.Kinds.{IsHopeless}
+use Rattle.aq_include.specs.Hopeless.{IsHopeless}
 use Rattle.aq_include.specs.Levels.{HasLevel}
 use Rattle.aq_include.proofs.BudgetLemmas.{words-cons}
 use Rattle.aq_include.proofs.CandidateLemmas.{get-front, get-last, offers-front}

@@ -12,7 +12,7 @@ use Rattle.aq_include.specs.declared.step.Stepped.{Stepped}
 use Rattle.aq_include.specs.declared.own.Own.{Own}
 use Rattle.aq_include.specs.Steps.{IsChild, IsPairChild, IsOnly, IsOwn, IsBack, Keeps}
 use Rattle.aq_include.specs.Costs.{rel_weight, weight}
-use Rattle.aq_include.specs.Kinds.{IsHopeless}
+use Rattle.aq_include.specs.Hopeless.{IsHopeless}
 
 -- the relation asks for no more than the other
 pub record IsWithin (r s : Rel) : Type 0 where

@@ -1,7 +1,7 @@
 pub mod Members
 pub mod Costs
 pub mod Steps
-pub mod Kinds
+pub mod Hopeless
 pub mod Candidates
 pub mod Levels
 pub mod Good

@@ -6,7 +6,6 @@ ghost use Rattle.aq_cert.specs.Goals.{goal_rest, FitTogether};
 ghost use Rattle.aq_include.specs.Costs.{Takes, IsCause, weight, size};
 ghost use Rattle.aq_include.specs.Answers.{Answers, IsPaid, StopsFor, IsRootRel, goal_words, search_budget};
 
-use crate::kinds::kinds_of;
 use crate::search::{Found, visit};
 use crate::table::Table;
 use aq_cert::{Cert, Macro, Rel, with_places};
@@ -80,11 +79,8 @@ pub fn include<L: Label>(
     let Ok(root) = root_macro(alloc, left, goals) else {
         return Err(Stop::Memory);
     };
-    let Ok(kinds) = kinds_of(store, alloc, left, goals) else {
-        return Err(Stop::Memory);
-    };
     match visit(
-        store, alloc, &kinds, left, goals, &mut table, 0, root, steps,
+        store, alloc, left, goals, &mut table, 0, root, steps,
     )? {
         Found::Reached(_) => {
             let Ok(places) = with_places(store, alloc, left, goals, table.macros.as_slice()) else {

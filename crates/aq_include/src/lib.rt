@@ -3,8 +3,8 @@
 #![tactic(auto)]
 
 mod end;
+mod hopeless;
 mod inclusion;
-mod kinds;
 mod own;
 mod pay;
 mod places;

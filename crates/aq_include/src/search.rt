@@ -7,11 +7,9 @@ ghost use Rattle.aq_cert.specs.Held.{IsHeld};
 ghost use Rattle.aq_cert.specs.Placed.{StandsAt, AllStand};
 ghost use Rattle.aq_include.specs.Costs.{Takes, IsCause, weight, size, budget, turn_budget};
 ghost use Rattle.aq_include.specs.Ends.{StopsWide};
-ghost use Rattle.aq_include.specs.Kinds.{AreKinds};
 ghost use Rattle.aq_include.specs.Search.{IsTable, Finds, Follows, GrowsWith, GrowsBy};
 
 use crate::end::find_end;
-use crate::kinds::Kinds;
 use crate::step::step;
 use crate::table::Table;
 use aq_cert::{Edge, Macro};
@@ -36,9 +34,9 @@ pub(crate) enum Followed {
     Escapes(Items<u32>),
 }
 
-/// A number for the content of a macro, by which it is found again.
-fn key_of(here: &Macro) -> u64 {
-    let mut key: u64 = 0;
+/// A number for the level and the content of a macro, by which it is found again.
+fn key_of(level: u32, here: &Macro) -> u64 {
+    let mut key: u64 = mix(0, level);
     for place in here.domain.as_slice() {
         key = mix(key, *place);
     }
@@ -92,7 +90,7 @@ fn finish<L: Label>(
     ensures takes { Takes (weight (goal_rest goals.now level) here) steps.old steps.new }
     ensures spent { IfErr result (λ e. IsCause (weight (goal_rest goals.now level) here) steps.old e) }
 {
-    let key = key_of(&here);
+    let key = key_of(level, &here);
     match find_end(store, alloc, &here, steps)? {
         Some(end) => {
             let Ok(number) = table.add_last(level as usize, key, here, end) else {
@@ -109,7 +107,6 @@ fn finish<L: Label>(
 pub(crate) fn visit<L: Label>(
     store: &Store<L>,
     alloc: Global,
-    kinds: &Kinds,
     left: &Lsta,
     goals: &[Lsta],
     table: &mut Table,
@@ -117,7 +114,6 @@ pub(crate) fn visit<L: Label>(
     here: Macro,
     steps: &mut Steps,
 ) -> Result<Found, Stop<L>>
-    requires kinds { AreKinds L.parts store.now kinds.now }
     requires few { length left.now.shape.items < 2 ^ 32 }
     requires level { level ≤ length left.now.shape.items }
     requires here { IsOfLevel store.now (drop level left.now.shape.items) (goal_rest goals.now level) here }
@@ -137,7 +133,7 @@ pub(crate) fn visit<L: Label>(
         here)) steps.old e) }
 {
     let _taken = steps.taken();
-    let key = key_of(&here);
+    let key = key_of(level, &here);
     if let Some(number) = table.find(level as usize, key, &here) {
         return Ok(Found::Reached(number));
     }
@@ -147,7 +143,7 @@ pub(crate) fn visit<L: Label>(
     let mut edges = Items::new(alloc);
     for choice in 0..left.shape[level as usize] {
         match follow(
-            store, alloc, kinds, left, goals, table, level, &here, choice, steps,
+            store, alloc, left, goals, table, level, &here, choice, steps,
         )? {
             Followed::Leads(edge) => {
                 let Ok(()) = edges.push(edge) else {
@@ -168,7 +164,6 @@ pub(crate) fn visit<L: Label>(
 fn follow<L: Label>(
     store: &Store<L>,
     alloc: Global,
-    kinds: &Kinds,
     left: &Lsta,
     goals: &[Lsta],
     table: &mut Table,
@@ -177,7 +172,6 @@ fn follow<L: Label>(
     choice: u32,
     steps: &mut Steps,
 ) -> Result<Followed, Stop<L>>
-    requires kinds { AreKinds L.parts store.now kinds.now }
     requires few { length left.now.shape.items < 2 ^ 32 }
     requires level { level < length left.now.shape.items }
     requires choice { choice < slice_index (drop level left.now.shape.items) 0 }
@@ -199,11 +193,10 @@ fn follow<L: Label>(
         goals.now level) here.now)) steps.old e) }
 {
     let _taken = steps.taken();
-    let stepped = step(store, alloc, kinds, here, goals, level, choice, steps)?;
+    let stepped = step(store, alloc, here, goals, level, choice, steps)?;
     match visit(
         store,
         alloc,
-        kinds,
         left,
         goals,
         table,

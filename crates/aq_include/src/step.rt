@@ -14,9 +14,8 @@ ghost use Rattle.aq_include.specs.Members.{HasSame};
 ghost use Rattle.aq_include.specs.Steps.{opened_children_of, IsOpened};
 ghost use Rattle.aq_include.specs.Candidates.{AreChildren, IsCandidateAt, AreOfRel, AreOfRels, HasRel, IsStepped};
 ghost use Rattle.aq_include.specs.Candidates.{IsOffer, Thins, IsOwnOf, Suffice};
-ghost use Rattle.aq_include.specs.Kinds.{AreKinds};
 
-use crate::kinds::{Kinds, is_hopeless};
+use crate::hopeless::is_hopeless;
 use crate::own::{Own, find_own};
 use crate::pay::pay;
 use crate::places::{
@@ -124,14 +123,12 @@ fn step_choice<L: Label>(
 fn step_offer<L: Label>(
     store: &Store<L>,
     alloc: Global,
-    kinds: &Kinds,
     rel: &Rel,
     opened: &[Opened],
     number: u32,
     choice: u32,
     steps: &mut Steps,
 ) -> Result<Option<Candidate>, Stop<L>>
-    requires kinds { AreKinds L.parts store.now kinds.now }
     requires within { (o : Opened) → Contains opened.now o → choice < length (pairs_at store.now o.right) }
     requires count { length opened.now ≡ length rel.now.pairs }
     ensures offer { IfOk result (λ found. (c : ℕ) → AllZip (IsOpened store.now c) rel.now.pairs opened.now →
@@ -141,7 +138,7 @@ fn step_offer<L: Label>(
     ensures takes { Takes (length rel.now.pairs) steps.old steps.new }
     ensures spent { IfErr result (λ e. IsCause (length rel.now.pairs) steps.old e) }
 {
-    if is_hopeless(store, kinds, opened, choice) {
+    if is_hopeless(store, opened, choice) {
         pay::<L>(steps, opened.len())?;
         return Ok(None);
     }
@@ -153,14 +150,12 @@ fn step_offer<L: Label>(
 fn step_rel<L: Label>(
     store: &Store<L>,
     alloc: Global,
-    kinds: &Kinds,
     rel: &Rel,
     number: u32,
     count: u32,
     choice: u32,
     steps: &mut Steps,
 ) -> Result<Vec<Candidate>, Stop<L>>
-    requires kinds { AreKinds L.parts store.now kinds.now }
     requires within { (p : ℕ × ℕ) → Contains rel.now.pairs p → (choice < length (pairs_at store.now p.0)) × (count ≤
         length (pairs_at store.now p.1)) }
     ensures candidates { IfOk result (λ list. AreOfRel L.parts store.now choice rel.now number count count
@@ -179,7 +174,6 @@ fn step_rel<L: Label>(
         let found = step_offer(
             store,
             alloc,
-            kinds,
             rel,
             opened.as_slice(),
             number,
@@ -250,14 +244,12 @@ pub(crate) fn goal_choices(goals: &[Lsta], goal: u32, level: u32) -> u32
 fn step_rels<L: Label>(
     store: &Store<L>,
     alloc: Global,
-    kinds: &Kinds,
     here: &Macro,
     goals: &[Lsta],
     level: u32,
     choice: u32,
     steps: &mut Steps,
 ) -> Result<Vec<Candidate>, Stop<L>>
-    requires kinds { AreKinds L.parts store.now kinds.now }
     requires here { (left : List ℕ) × IsOfLevel store.now left (goal_rest goals.now level) here.now × (choice <
         slice_index left 0) }
     ensures candidates { IfOk result (λ list. AreOfRels L.parts store.now choice (goal_rest goals.now level)
@@ -281,7 +273,7 @@ fn step_rels<L: Label>(
             return Err(Stop::Memory);
         };
         let count = goal_choices(goals, rel.goal, level);
-        let mut more = step_rel(store, alloc, kinds, rel, short, count, choice, steps)?;
+        let mut more = step_rel(store, alloc, rel, short, count, choice, steps)?;
         let Ok(()) = list.append(&mut more) else {
             return Err(Stop::Memory);
         };
@@ -336,14 +328,12 @@ fn thin(alloc: Global, list: Vec<Candidate>) -> Result<Vec<Candidate>, AllocErro
 fn step_each<L: Label>(
     store: &Store<L>,
     alloc: Global,
-    kinds: &Kinds,
     here: &Macro,
     goals: &[Lsta],
     level: u32,
     choice: u32,
     steps: &mut Steps,
 ) -> Result<Vec<Candidate>, Stop<L>>
-    requires kinds { AreKinds L.parts store.now kinds.now }
     requires here { (left : List ℕ) × IsOfLevel store.now left (goal_rest goals.now level) here.now × (choice <
         slice_index left 0) }
     ensures suffice { IfOk result (λ list. Suffice L.parts store.now choice (goal_rest goals.now level) (goal_rest
@@ -358,7 +348,7 @@ fn step_each<L: Label>(
     if let Some(own) = find_own(store, here, goals, level, choice) {
         return step_own(store, alloc, here, goals, level, choice, own, steps);
     }
-    let list = step_rels(store, alloc, kinds, here, goals, level, choice, steps)?;
+    let list = step_rels(store, alloc, here, goals, level, choice, steps)?;
     let Ok(kept) = thin(alloc, list) else {
         return Err(Stop::Memory);
     };
@@ -387,14 +377,12 @@ fn gather(alloc: Global, domain: Items<u32>, list: Vec<Candidate>) -> Result<Ste
 pub(crate) fn step<L: Label>(
     store: &Store<L>,
     alloc: Global,
-    kinds: &Kinds,
     here: &Macro,
     goals: &[Lsta],
     level: u32,
     choice: u32,
     steps: &mut Steps,
 ) -> Result<Stepped, Stop<L>>
-    requires kinds { AreKinds L.parts store.now kinds.now }
     requires here { (left : List ℕ) × IsOfLevel store.now left (goal_rest goals.now level) here.now × (choice <
         slice_index left 0) }
     ensures stepped { IfOk result (λ s. IsStepped L.parts store.now choice (goal_rest goals.now level) (goal_rest
@@ -406,7 +394,7 @@ pub(crate) fn step<L: Label>(
 {
     let _taken = steps.taken();
     let domain = step_domain(store, alloc, here.domain.as_slice(), choice, steps)?;
-    let list = step_each(store, alloc, kinds, here, goals, level, choice, steps)?;
+    let list = step_each(store, alloc, here, goals, level, choice, steps)?;
     let Ok(stepped) = gather(alloc, domain, list) else {
         return Err(Stop::Memory);
     };

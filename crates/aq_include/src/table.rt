@@ -18,7 +18,7 @@ pub(crate) struct Table {
     pub(crate) macros: Vec<Items<Macro>>,
     pub(crate) edges: Vec<Items<Items<Edge>>>,
     pub(crate) ends: Items<End>,
-    found: Vec<IndexMap<u64, u32>>,
+    found: IndexMap<u64, u32>,
 }
 
 /// Puts an item at the end of a row, and tells its number.
@@ -62,7 +62,7 @@ impl Table {
     pub(crate) fn find(&self, level: usize, key: u64, here: &Macro) -> Option<u32>
         ensures { IfSome result (λ i. item_at self.now.macros.items level i ≡ Some here.now) }
     {
-        let number = *self.found.get(level)?.get(&key)?;
+        let number = *self.found.get(&key)?;
         let other = self.macros.get(level)?.get(number as usize)?;
         if same(other, here) {
             Some(number)
@@ -79,19 +79,16 @@ impl Table {
     {
         let mut macros = Vec::new(alloc);
         let mut edges = Vec::new(alloc);
-        let mut found = Vec::new(alloc);
         for _level in 0..levels {
             macros.push(Items::new(alloc))?;
             edges.push(Items::new(alloc))?;
-            found.push(IndexMap::new(alloc))?;
         }
         macros.push(Items::new(alloc))?;
-        found.push(IndexMap::new(alloc))?;
         Ok(Table {
             macros,
             edges,
             ends: Items::new(alloc),
-            found,
+            found: IndexMap::new(alloc),
         })
     }
 
@@ -115,7 +112,7 @@ impl Table {
     }
 
     /// Remembers where a macro with this content stands.
-    fn remember(&mut self, level: usize, key: u64, number: usize) -> Result<u32, AllocError>
+    fn remember(&mut self, key: u64, number: usize) -> Result<u32, AllocError>
         ensures macros { self.new.macros ≡ self.old.macros }
         ensures edges { self.new.edges ≡ self.old.edges }
         ensures ends { self.new.ends ≡ self.old.ends }
@@ -124,9 +121,7 @@ impl Table {
         let Ok(short) = u32::try_from(number) else {
             return Err(AllocError);
         };
-        if let Some(found) = self.found.get_mut(level) {
-            found.insert(key, short)?;
-        }
+        self.found.insert(key, short)?;
         Ok(short)
     }
 
@@ -146,7 +141,7 @@ impl Table {
     {
         let _place = push_at(&mut self.edges, level, edges)?;
         let number = push_at(&mut self.macros, level, here)?;
-        self.remember(level, key, number)
+        self.remember(key, number)
     }
 
     /// Puts a good macro of the last level into the table.
@@ -164,6 +159,6 @@ impl Table {
     {
         self.ends.push(end)?;
         let number = push_at(&mut self.macros, level, here)?;
-        self.remember(level, key, number)
+        self.remember(key, number)
     }
 }

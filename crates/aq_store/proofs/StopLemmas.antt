@@ -1,11 +1,11 @@
 -- Calls that give up within other calls.
-use Rattle.std.proofs.Common.{◌≡◌, ℕ, ◌+◌, ◌<◌, ◌≤◌, ◌⊎◌, inl, inr, List, Result, Ok, Err, IsErr, IsErrAnd, IfErr, refl, sym, ap, subst, ◌∙◌, arith}
-use Rattle.aq_store.specs.Count.{Count, after}
+use Rattle.std.proofs.Common.{◌≡◌, ℕ, ◌+◌, ◌≤◌, inl, inr, List, Result, Ok, Err, IsErr, IsErrAnd, IfErr, sym, ap, subst, ◌∙◌, arith}
+use Rattle.aq_store.specs.Count.{Count}
 use Rattle.aq_store.specs.Stops.{GivesUp}
 use Rattle.aq_store.specs.declared.store.Stop.{Stop}
-use Rattle.aq_store.specs.declared.store.Stop.TheVariants.{Spent, Wide, WideParts, Memory}
+use Rattle.aq_store.specs.declared.store.Stop.TheVariants.{Memory}
 use Rattle.aq_store.specs.declared.node.Node.{Node}
-use Rattle.aq_store.specs.Nodes.{Adds, IsAdded, IsRefused, cost}
+use Rattle.aq_store.specs.Nodes.{Adds, IsRefused, cost}
 
 module _ {L : Type 0} where
   pub GivesUp-within : (start before now : Count) (b c : ℕ) (why : Stop L) → before.limit ≡ start.limit → before.taken + b ≤ start.taken + c → GivesUp b before now why → GivesUp c start now why

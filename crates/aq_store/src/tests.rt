@@ -106,3 +106,21 @@ fn walks_a_shared_automaton(rt: HostRuntime) -> Result<(), Fail> {
     assert_eq!(rt; levels[2].as_slice(), [zero, one].as_slice());
     Ok(())
 }
+
+#[test]
+fn a_store_knows_which_nodes_are_zero(rt: HostRuntime) -> Result<(), Fail> {
+    let mut store = Store::<Amp>::new(rt.alloc());
+    let mut steps = Steps::new(100);
+    let Drawn {
+        lsta,
+        upper,
+        lower,
+        zero,
+        one,
+    } = shared(&mut store, rt.alloc(), &mut steps)?;
+    assert!(rt; store.is_zero(zero) && store.is_zero(upper));
+    assert!(rt; store.is_never_zero(one) && store.is_never_zero(lower));
+    assert!(rt; store.is_never_zero(lsta.root) && !store.is_zero(lsta.root));
+    assert!(rt; !store.is_zero(one) && !store.is_never_zero(zero));
+    Ok(())
+}

@@ -24,7 +24,7 @@ module _ {L : Type 0} (parts : L → List Amplitude) (count : ℕ) (table : List
   pub alive_none : AreAlive parts count table [] []
   alive_none = record {
     same = λ v. refl;
-    live = All-nil (IsLive parts count table);
+    live = All-nil (IsLive parts table);
     within = All-nil (Contains []);
     lighter = λ named k. (omega arith);
   }
@@ -51,7 +51,7 @@ module _ {L : Type 0} (parts : L → List Amplitude) (count : ℕ) (table : List
         same = λ v. subst (λ (l : List meant.World). AreSame l (map (world_of parts v table) (ws ++ w ∷ []))) (sym (seen_more v list w))
             (subst (λ (l : List meant.World). AreSame (map (world_of parts v table) list ++ world_of parts v table w ∷ []) l) (sym (seen_more v ws w))
             (same_append (map (world_of parts v table) list) (map (world_of parts v table) ws) (world_of parts v table w ∷ []) (world_of parts v table w ∷ []) (a.same v) refl));
-        live = All-append (IsLive parts count table) list (w ∷ []) a.live (All-cons (IsLive parts count table) w [] h.1 (All-nil (IsLive parts count table)));
+        live = All-append (IsLive parts table) list (w ∷ []) a.live (All-cons (IsLive parts table) w [] h.1 (All-nil (IsLive parts table)));
         within = All-append (Contains (ws ++ w ∷ [])) list (w ∷ []) (All-weaker (Contains ws) (Contains (ws ++ w ∷ [])) (λ x c. Contains-append_left ws (w ∷ []) x c) list a.within)
             (All-cons (Contains (ws ++ w ∷ [])) w [] (Contains-append_right ws (w ∷ []) w (0, omega arith, refl)) (All-nil (Contains (ws ++ w ∷ []))));
         lighter = λ named k. (let h = a.lighter named k in let e = weights-append named k ws (w ∷ []) in let f = weights-append named k list (w ∷ []) in omega arith);

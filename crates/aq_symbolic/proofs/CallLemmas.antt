@@ -160,6 +160,10 @@ module _ {L : Type 0} (parts : L → List Amplitude) (count : ℕ) where
         cause = tt;
       }
 
+  -- memory is wanting after all worlds were played
+  pub memory_done : (P : Move) (s0 s1 : List (Node L)) (c0 c1 : Count) (all list : List World) → Leaves parts count P s0 s1 c0 c1 all list → Stops parts count P s0 all c0 c1 Memory
+  memory_done P s0 s1 c0 c1 all list made = record { stopped = λ named h. stopped_memory c0 c1 (most_steps named P all) (made.takes named h); cause = tt }
+
   -- memory is wanting at once
   pub memory_first : (P : Move) (table : List (Node L)) (c : Count) (all : List World) → Stops parts count P table all c c Memory
   memory_first P table c all = record { stopped = λ named h. stopped_memory c c (most_steps named P all) (omega arith); cause = tt }

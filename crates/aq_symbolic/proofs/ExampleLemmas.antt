@@ -1,4 +1,4 @@
--- The fragment of the test.
+-- The fragments of the tests.
 use Rattle.std.proofs.Common.{◌≡◌, Bool, true, false, ◌||◌, List, [], ◌∷◌, None, refl, ap, ap₂, ◌∙◌, arith}
 use Rattle.std.proofs.lemmas.List.Elements.{All-cons, All-nil}
 use Rattle.aq_prog.specs.Cuts.{AreUncut, cut_step, has_cut}
@@ -20,6 +20,9 @@ guard = record { bit = 0; value = true }
 
 abbrev pub both : Gate → List Stmt
 both gate = stmt.If guard (stmt.Gate gate ∷ []) [] ∷ stmt.Measure 0 None ∷ []
+
+abbrev pub alone : Gate → List Stmt
+alone gate = stmt.If guard (stmt.Gate gate ∷ []) [] ∷ []
 
 module _ (gate : Gate) where
   flip_valid : IsValidGate 1 gate → IsValidStmt 1 1 0 (stmt.Gate gate)
@@ -47,3 +50,12 @@ module _ (gate : Gate) where
 
   pub both_uncut : AreUncut (both gate)
   both_uncut = ap₂ (λ (x y : Bool). x || (y || false)) branch_uncut (fold-measure Bool cut_step 0 None)
+
+  pub alone_playable : IsValidGate 1 gate → ArePlayable 1 1 (alone gate)
+  alone_playable v = record {
+    claims = 0;
+    valid = All-cons (IsValidStmt 1 1 0) (stmt.If guard (stmt.Gate gate ∷ []) []) [] (branch_valid (flip_valid v)) (All-nil (IsValidStmt 1 1 0));
+  }
+
+  pub alone_uncut : AreUncut (alone gate)
+  alone_uncut = ap (λ (x : Bool). x || false) branch_uncut

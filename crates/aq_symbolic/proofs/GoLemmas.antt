@@ -10,7 +10,7 @@ use Rattle.aq_ring.proofs.VectorLaws.{is_zero_vector_true}
 use Rattle.aq_prog.specs.declared.stmt.Guard.{Guard}
 use Rattle.aq_prog.specs.declared.stmt.Stmt.{Stmt}
 use Rattle.aq_store.specs.Count.{Count}
-use Rattle.aq_store.specs.Nodes.{FitsStore}
+use Rattle.aq_store.specs.Nodes.{FitsStore, tree}
 use Rattle.aq_store.specs.Words.{IsWord}
 use Rattle.aq_store.specs.declared.node.Node.{Node}
 use Rattle.aq_obligations.specs.Counting.{is_named}
@@ -22,9 +22,10 @@ use Rattle.aq_symbolic.specs.Moves.{of_body}
 use Rattle.aq_symbolic.specs.Playing.{CanPlay, Goes, Leaves, ShowsAll, named_in}
 use Rattle.aq_symbolic.specs.Steps.{AreAlive}
 use Rattle.aq_symbolic.specs.Weights.{AreNamed}
-use Rattle.aq_symbolic.specs.Worlds.{AllFitStore, ComesFrom, IsLive, IsSized, View, vector_at, world_of}
+use Rattle.aq_symbolic.specs.Worlds.{AllFitStore, ComesFrom, IsLive, IsSized, Pick, View, vector_at, world_of}
 use Rattle.aq_symbolic.specs.declared.kept.World.{World}
 use Rattle.aq_symbolic.proofs.Elements.{contains_map}
+use Rattle.aq_symbolic.proofs.NonzeroLemmas.{nonzero_part}
 use Rattle.aq_symbolic.proofs.LeadLemmas.{blind, blind_proper}
 
 -- ---- bits that guards name
@@ -59,24 +60,26 @@ all_pass t (y ∷ xs) x e c = by c.0 c.1 c.2 (and_true (t y) (list_all t xs) e) 
     by zero lt is both next = ap t (sym is) ∙ both.0
     by (suc k) lt is both next = next both.1 (k, omega (arith, lt), is)
 
-module _ {L : Type 0} (parts : L → List Amplitude) (count : ℕ) where
+module _ {L : Type 0} (parts : L → List Amplitude) (count : ℕ) (all_parts : (x : L) → length (parts x) ≡ count) where
   -- a world that has a vector that isn't zero, and of which all is seen
-  live_seen : (v : View) (table : List (Node L)) (w : World) → ShowsAll count v w → IsLive parts count table w → is_alive (world_of parts v table w) ≡ true
+  live_seen : (v : View) (table : List (Node L)) (w : World) → ShowsAll count v w → IsLive parts table w → is_alive (world_of parts v table w) ≡ true
   live_seen v table w shows live = by (is_nought (world_of parts v table w)) refl
     where
       by : (b : Bool) → is_nought (world_of parts v table w) ≡ b → not b ≡ true
       by true e =
-          absurd (live.nonzero (is_zero_vector_true (vector_at parts table w.lsta (record { word = live.word; part = live.part }))
-          (all_pass is_zero_vector (map (vector_at parts table w.lsta) (v.picks w.case)) (vector_at parts table w.lsta (record { word = live.word; part = live.part })) e
-          (contains_map (vector_at parts table w.lsta) (v.picks w.case) (record { word = live.word; part = live.part }) (shows.each (record { word = live.word; part = live.part }) live.is_word live.within)))))
+          let some = nonzero_part parts count all_parts (tree table live.word w.lsta.root) live.nonzero in
+          let seen : Pick = record { word = live.word; part = some.0 } in
+          absurd (some.2 (is_zero_vector_true (vector_at parts table w.lsta seen)
+          (all_pass is_zero_vector (map (vector_at parts table w.lsta) (v.picks w.case)) (vector_at parts table w.lsta seen) e
+          (contains_map (vector_at parts table w.lsta) (v.picks w.case) seen (shows.each seen live.is_word some.1)))))
       by false e = refl
 
-  all_alive : (v : View) (table : List (Node L)) (ws : List World) → All (ShowsAll count v) ws → All (IsLive parts count table) ws → filter is_alive (map (world_of parts v table) ws) ≡ map (world_of parts v table) ws
+  all_alive : (v : View) (table : List (Node L)) (ws : List World) → All (ShowsAll count v) ws → All (IsLive parts table) ws → filter is_alive (map (world_of parts v table) ws) ≡ map (world_of parts v table) ws
   all_alive v table [] s a = refl
   all_alive v table (w ∷ ws) s a =
       ap (λ b. cond b (world_of parts v table w ∷ filter is_alive (map (world_of parts v table) ws)) (filter is_alive (map (world_of parts v table) ws)))
-      (live_seen v table w (All-head (ShowsAll count v) w ws s) (All-head (IsLive parts count table) w ws a))
-      ∙ ap (λ (l : List meant.World). world_of parts v table w ∷ l) (all_alive v table ws (All-tail (ShowsAll count v) w ws s) (All-tail (IsLive parts count table) w ws a))
+      (live_seen v table w (All-head (ShowsAll count v) w ws s) (All-head (IsLive parts table) w ws a))
+      ∙ ap (λ (l : List meant.World). world_of parts v table w ∷ l) (all_alive v table ws (All-tail (ShowsAll count v) w ws s) (All-tail (IsLive parts table) w ws a))
 
   -- a world that comes of others is seen as they are
   shows_from : (v : View) (ws : List World) (u : World) → All (ShowsAll count v) ws → ComesFrom ws u → ShowsAll count v u

@@ -10,6 +10,7 @@ mod StopLemmas
 mod CollectLemmas
 mod LeadLemmas
 mod MemoLemmas
+mod StockLemmas
 mod BranchLemmas
 mod StepLemmas
 mod CallLemmas

@@ -8,9 +8,10 @@ use Rattle.aq_prog.specs.declared.stmt.Stmt.{Stmt}
 use Rattle.aq_prog.specs.declared.stmt.Stmt.TheVariants as stmt
 use Rattle.aq_prog.specs.declared.stmt.Stmt.TheOpen.{Stmt-F}
 use Rattle.aq_prog.specs.declared.stmt.Stmt.TheViews.{out-Stmt, out-roll-Stmt}
+use Rattle.aq_store.specs.Nodes.{Extends}
 use Rattle.aq_store.specs.declared.node.Node.{Node}
-use Rattle.aq_gate_ops.proofs.GateLemmas.{acting_new}
-use Rattle.aq_measure_ops.proofs.ProjectionLemmas.{projecting_new}
+use Rattle.aq_gate_ops.proofs.GateLemmas.{acting_later, acting_new}
+use Rattle.aq_measure_ops.proofs.ProjectionLemmas.{projecting_later, projecting_new}
 use Rattle.aq_symbolic.specs.Memos.{AreFresh, AreLevelMemos, AreMemos, AreOutcomes}
 use Rattle.aq_symbolic.specs.declared.memos.Memos.{Memos}
 
@@ -62,3 +63,19 @@ module _ {L : Type 0} (parts : L → List Amplitude) (count n : ℕ) where
 
   pub memos_new : (table : List (Node L)) (memos : Memos) → AreFresh memos → (s : Stmt) → AreMemos parts count n table memos s
   memos_new table memos none s = level_new table memos none (out-Stmt s)
+
+  -- ---- as the table grows
+  outcomes_later : (old new : List (Node L)) → Extends old new → (memos : Memos) (qubit : ℕ) → AreOutcomes parts count n old memos qubit → AreOutcomes parts count n new memos qubit
+  outcomes_later old new x memos qubit m = record { zero = projecting_later parts qubit false n old new x memos.zero m.zero; other = projecting_later parts qubit true n old new x memos.other m.other }
+
+  level_later : (old new : List (Node L)) → Extends old new → (memos : Memos) (s : Stmt-F Stmt) → AreLevelMemos parts count n old memos s → AreLevelMemos parts count n new memos s
+  level_later old new x memos (Stmt-F.Gate gate) m = acting_later parts count gate n old new x memos.acting m
+  level_later old new x memos (Stmt-F.Measure qubit bit) m = outcomes_later old new x memos qubit m
+  level_later old new x memos (Stmt-F.Reset qubit) m = record { outcomes = outcomes_later old new x memos qubit m.outcomes; flip = acting_later parts count (flip_gate qubit) n old new x memos.acting m.flip }
+  level_later old new x memos (Stmt-F.If guard when_true when_false) m = tt
+  level_later old new x memos (Stmt-F.While guard claim body line) m = tt
+  level_later old new x memos (Stmt-F.Assert claim line) m = tt
+  level_later old new x memos (Stmt-F.Assume guard) m = tt
+
+  pub memos_later : (old new : List (Node L)) → Extends old new → (memos : Memos) (s : Stmt) → AreMemos parts count n old memos s → AreMemos parts count n new memos s
+  memos_later old new x memos s m = level_later old new x memos (out-Stmt s) m

@@ -14,14 +14,10 @@ use Rattle.aq_store.proofs.ShapeLemmas.{tree-Extends-shape}
 use Rattle.aq_store.proofs.TableLemmas.{HasShape-Extends}
 use Rattle.aq_obligations.specs.Worlds.{Partial}
 use Rattle.aq_correct.specs.WorldLaws.{is_alive}
+use Rattle.aq_symbolic.proofs.NonzeroLemmas.{zero_part, zero_test}
 use Rattle.aq_symbolic.specs.Steps.{HasFields, IsMapped, IsSameSet}
 use Rattle.aq_symbolic.specs.Worlds.{IsNothing, IsSized, IsView, Pick, View, vector_at, world_of}
 use Rattle.aq_symbolic.specs.declared.kept.World.{World}
-
-zero_test : (v : List Amplitude) → IsZeroVector v → is_zero_vector v ≡ true
-zero_test [] z = refl
-zero_test (p ∷ v) z =
-    ap₂ (λ (a b : Bool). a && b) (is_zero_of_zero p (All-head (λ q. q ≡ amplitude_zero) p v z)) (zero_test v (All-tail (λ q. q ≡ amplitude_zero) p v z))
 
 module _ {L : Type 0} (parts : L → List Amplitude) where
   zero_picks : (table : List (Node L)) (lsta : Lsta) (picks : List Pick) → ((p : Pick) → IsZeroVector (vector_at parts table lsta p)) → list_all is_zero_vector (map (vector_at parts table lsta) picks) ≡ true
@@ -30,7 +26,7 @@ module _ {L : Type 0} (parts : L → List Amplitude) where
 
   -- a world whose every vector is zero is none, however it is looked at
   pub nothing_dead : (v : View) (table : List (Node L)) (w : World) → IsNothing parts table w → is_alive (world_of parts v table w) ≡ false
-  nothing_dead v table w z = ap not (zero_picks table w.lsta (v.picks w.case) (λ p. z p.word p.part))
+  nothing_dead v table w z = ap not (zero_picks table w.lsta (v.picks w.case) (λ p. zero_part parts (tree table p.word w.lsta.root) (z.zero p.word) p.part))
 
   -- the table has grown
   same_picks : (old new : List (Node L)) (lsta : Lsta) → Extends old new → FitsStore old lsta → (picks : List Pick) → map (vector_at parts new lsta) picks ≡ map (vector_at parts old lsta) picks

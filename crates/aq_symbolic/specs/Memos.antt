@@ -1,5 +1,5 @@
 -- What one statement has made of nodes of a table, on worlds of as many qubits.
-use Rattle.std.specs.Prelude.{ℕ, true, false, List}
+use Rattle.std.specs.Prelude.{◌≡◌, ℕ, ◌⊎◌, true, false, List, Some, All, Contains, slice_get}
 use Rattle.aq_ring.specs.Fractions.{Amplitude}
 use Rattle.aq_prog.specs.Gates.{flip_gate}
 use Rattle.aq_prog.specs.declared.stmt.Stmt.{Stmt}
@@ -11,6 +11,7 @@ use Rattle.aq_gate_ops.specs.Action as gates
 use Rattle.aq_measure_ops.specs.Projection.{IsProjecting}
 use Rattle.aq_measure_ops.specs.Projection as projections
 use Rattle.aq_symbolic.specs.declared.memos.Memos.{Memos}
+use Rattle.aq_symbolic.specs.declared.stock.StmtMemos.{StmtMemos}
 
 -- nothing is done yet
 pub record AreFresh (memos : Memos) : Type 0 where
@@ -41,3 +42,25 @@ module _ {L : Type 0} (parts : L → List Amplitude) (count n : ℕ) (table : Li
 
   abbrev pub AreMemos : Stmt → Type 0
   AreMemos s = AreLevelMemos (out-Stmt s)
+
+-- memos of a statement, on automata of so many levels
+abbrev pub entry : Stmt → ℕ → Memos → StmtMemos
+entry s levels memos = record { stmt = s; levels = levels; memos = memos }
+
+-- memos of the statement stand at this place
+pub record IsPlaced (s : Stmt) (levels : ℕ) (entries : List StmtMemos) (i : ℕ) : Type 0 where
+  pub memos : Memos
+  pub stands : slice_get entries i ≡ Some (entry s levels memos)
+
+-- the memos were kept for the statement or are fresh, and what is left was kept or is fresh
+pub record IsTaken (s : Stmt) (levels : ℕ) (old new : List StmtMemos) (memos : Memos) : Type 0 where
+  pub taken : AreFresh memos ⊎ Contains old (entry s levels memos)
+  pub left : All (λ e. AreFresh e.memos ⊎ Contains old e) new
+
+-- what is kept is these memos of the statement, or was kept before
+abbrev pub ArePut : Stmt → ℕ → Memos → List StmtMemos → List StmtMemos → Type 0
+ArePut s levels memos old new = All (λ e. (e ≡ entry s levels memos) ⊎ Contains old e) new
+
+-- all that are kept are of their statements
+abbrev pub AreAllMemos : {L : Type 0} → (L → List Amplitude) → ℕ → List (Node L) → List StmtMemos → Type 0
+AreAllMemos parts count table entries = All (λ e. AreMemos parts count e.levels table e.memos e.stmt) entries

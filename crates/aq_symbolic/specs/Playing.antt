@@ -105,7 +105,7 @@ module _ {L : Type 0} (parts : L → List Amplitude) (count : ℕ) where
         → map (world_of parts v new) list ≡ filter is_alive (flat_map ((of_body body).spread n) (map (world_of parts v old) ws))
     pub sized : (n m : ℕ) → AreSized n m old ws → AreSized n m new list
     pub from : All (ComesFrom ws) list
-    pub live : All (IsLive parts count new) list
+    pub live : All (IsLive parts new) list
     pub fits : (n m : ℕ) (v : View) → IsView count v → AreSized n m old ws → AllFit n (flat_map ((of_body body).meets n) (map (world_of parts v old) ws))
     -- each outcome and each decision on a bit that the statements name at most doubles what there is
     pub lighter : (named : ℕ → Bool) (k : ℕ) → AreNamed named (of_body body).guards → weights named k list ≤ weights named ((of_body body).outcomes + k) ws

@@ -54,12 +54,12 @@ module _ {L : Type 0} (parts : L → List Amplitude) (count : ℕ) where
 
   -- the list has grown by the world if one of its vectors isn't zero, and else every one is zero
   abbrev pub AddsLive : List (Node L) → World → List World → List World → Type 0
-  AddsLive table w old new = ((new ≡ old) × IsNothing parts table w) ⊎ ((new ≡ old ++ w ∷ []) × IsLive parts count table w)
+  AddsLive table w old new = ((new ≡ old) × IsNothing parts table w) ⊎ ((new ≡ old ++ w ∷ []) × IsLive parts table w)
 
   -- the list is the worlds, but for those whose every vector is zero
   pub record AreAlive (table : List (Node L)) (ws list : List World) : Type 0 where
     pub same : (v : View) → AreSame (map (world_of parts v table) list) (map (world_of parts v table) ws)
-    pub live : All (IsLive parts count table) list
+    pub live : All (IsLive parts table) list
     pub within : All (Contains ws) list
     pub lighter : (named : ℕ → Bool) (outcomes : ℕ) → weights named outcomes list ≤ weights named outcomes ws
 

@@ -5,10 +5,9 @@
 -- at: all words in order give the whole case, and one word gives the runs from one state.
 use Rattle.std.specs.Prelude.{◌≡◌, ℕ, ◌<◌, List, map, filter, length, All, Contains}
 use Rattle.aq_ring.specs.Fractions.{Amplitude}
-use Rattle.aq_ring.specs.Vectors.{IsZeroVector}
 use Rattle.aq_store.specs.Nodes.{FitsStore, tree, vector_of}
+use Rattle.aq_store.specs.Kinds.{HasState, IsNull}
 use Rattle.aq_store.specs.Parts.{part_vector}
-use Rattle.aq_store.specs.Words.{IsWord}
 use Rattle.aq_store.specs.declared.lsta.Lsta.{Lsta}
 use Rattle.aq_store.specs.declared.node.Node.{Node}
 use Rattle.aq_prog.specs.Digits.{tabulate}
@@ -49,26 +48,13 @@ module _ {L : Type 0} (parts : L → List Amplitude) where
   abbrev pub world_of : View → List (Node L) → World → meant.World
   world_of v table w = record { case = v.case w.case; start = w.start; bits = w.bits; outcomes = w.outcomes; vectors = map (vector_at table w.lsta) (v.picks w.case) }
 
-  -- every vector below a place is zero
-  abbrev pub IsNull : List (Node L) → ℕ → Type 0
-  IsNull table id = (word : List ℕ) (k : ℕ) → IsZeroVector (part_vector parts k (tree table word id))
-
   -- every vector of the world is zero
   abbrev pub IsNothing : List (Node L) → World → Type 0
-  IsNothing table w = IsNull table w.lsta.root
-
-module _ {L : Type 0} (parts : L → List Amplitude) (count : ℕ) where
-  -- some word of the shape has a part that isn't zero
-  pub record HasState (table : List (Node L)) (shape : List ℕ) (id : ℕ) : Type 0 where
-    pub word : List ℕ
-    pub is_word : IsWord shape word
-    pub part : ℕ
-    pub within : part < count
-    pub nonzero : IsZeroVector (part_vector parts part (tree table word id)) → ⊥
+  IsNothing table w = IsNull parts table w.lsta.root
 
   -- one of the world's vectors isn't zero
   abbrev pub IsLive : List (Node L) → World → Type 0
-  IsLive table w = HasState table w.lsta.shape.items w.lsta.root
+  IsLive table w = HasState parts table w.lsta.shape.items w.lsta.root
 
 -- the world has m bits, and an automaton of n levels in the table
 pub record IsSized {L : Type 0} (n m : ℕ) (table : List (Node L)) (w : World) : Type 0 where

@@ -9,9 +9,9 @@ mod drawn;
 mod fragment;
 mod kept;
 mod memos;
-mod nonzero;
 mod several;
 mod spread;
+mod stock;
 #[cfg(test)]
 mod tests;
 

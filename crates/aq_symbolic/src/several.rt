@@ -1,7 +1,9 @@
 //! Several worlds: those that a step on one leaves.
 ghost use Rattle.std.specs.Prelude.{◌≡◌, ◌<◌, ◌≤◌, ◌+◌, [], ◌∷◌, length, IfOk, IfErr, IfSome, OnOk};
 ghost use Rattle.aq_prog.specs.Gates.{IsValidGate};
+ghost use Rattle.std.specs.Bool.{OnTrue, OnFalse};
 ghost use Rattle.aq_store.specs.Count.{after};
+ghost use Rattle.aq_store.specs.Kinds.{HasState, IsNull};
 ghost use Rattle.aq_store.specs.Nodes.{FitsStore, total_cost};
 ghost use Rattle.aq_store.specs.Stops.{GivesUp};
 ghost use Rattle.aq_gate_ops.specs.Action.{IsActing};
@@ -14,10 +16,9 @@ ghost use Rattle.aq_symbolic.specs.Worlds.{AllFitStore};
 
 use crate::kept::World;
 use crate::memos::Memos;
-use crate::nonzero::has_state;
 use aq_label::Label;
 use aq_prog::{Gate, Guard};
-use aq_store::{Steps, Stop, Store};
+use aq_store::{Lsta, Steps, Stop, Store};
 use std::alloc::{AllocError, Global};
 
 /// Takes a step for each world that is made. `Spent`: so many are more than were left.
@@ -49,6 +50,15 @@ fn two(alloc: Global, first: World, second: World) -> Result<Vec<World>, AllocEr
     list.push(first)?;
     list.push(second)?;
     Ok(list)
+}
+
+/// Whether an automaton has a vector that isn't zero.
+fn has_state<L: Label>(store: &Store<L>, lsta: &Lsta) -> bool
+    requires { FitsStore store.now lsta.now }
+    ensures some { OnTrue result (HasState L.parts store.now lsta.now.shape.items lsta.now.root) }
+    ensures none { OnFalse result (IsNull L.parts store.now lsta.now.root) }
+{
+    !store.is_zero(lsta.root)
 }
 
 /// Adds the world, if one of its vectors isn't zero.

@@ -4,8 +4,9 @@ ghost use Rattle.aq_prog.specs.Cuts.{AreUncut};
 ghost use Rattle.aq_prog.specs.Gates.{IsValidGate};
 ghost use Rattle.aq_plain.specs.Replaying.{ArePlayable};
 ghost use Rattle.aq_store.specs.Nodes.{HasShape, total_cost};
-ghost use Rattle.aq_symbolic.specs.Worlds.{AreSized};
+ghost use Rattle.aq_symbolic.specs.Worlds.{AreSized, IsSized};
 
+use crate::spread::play;
 use crate::{World, go, split};
 use aq_prog::{Gate, Guard, Stmt, gate_named};
 use aq_ring::Amp;
@@ -52,6 +53,26 @@ fn branch_and_measurement(alloc: Global) -> Result<Items<Stmt>, Fail>
     Ok(body)
 }
 
+/// Flips qubit 0 if bit 0 is 1.
+fn branch(alloc: Global) -> Result<Items<Stmt>, Fail>
+    ensures playable { IfOk result (ArePlayable 1 1) }
+    ensures uncut { IfOk result AreUncut }
+{
+    let gate = flip(alloc)?;
+    let mut yes = Items::new(alloc);
+    yes.push(Stmt::Gate(gate))?;
+    let mut body = Items::new(alloc);
+    body.push(Stmt::If {
+        guard: Guard {
+            bit: 0,
+            value: true,
+        },
+        yes,
+        no: Items::new(alloc),
+    })?;
+    Ok(body)
+}
+
 /// A leaf.
 fn leaf(store: &mut Store<Amp>, label: Amp, steps: &mut Steps) -> Result<Id, Stop<Amp>>
     requires paid { total_cost store.old ≤ steps.old.taken }
@@ -90,6 +111,57 @@ fn open_world(alloc: Global, store: &mut Store<Amp>, steps: &mut Steps) -> Resul
         lsta: Lsta { root, shape },
     })?;
     Ok(list)
+}
+
+/// A world with one bit, which is 1.
+fn known_world(alloc: Global, store: &Store<Amp>, root: Id) -> Result<World, Fail>
+    requires { HasShape store.now (1 ∷ []) root }
+    ensures { IfOk result (IsSized 1 1 store.now) }
+{
+    let _store = store;
+    let mut shape = Vec::new(alloc);
+    shape.push(1)?;
+    Ok(World {
+        case: 0,
+        start: Items::from_slice(alloc, &[Some(true)])?,
+        bits: Items::from_slice(alloc, &[Some(true)])?,
+        outcomes: Items::new(alloc),
+        lsta: Lsta { root, shape },
+    })
+}
+
+/// The state |0> + |1>, in so many of these worlds.
+fn known_worlds(
+    alloc: Global,
+    store: &mut Store<Amp>,
+    count: usize,
+    steps: &mut Steps,
+) -> Result<Vec<World>, Fail>
+    requires paid { total_cost store.old ≤ steps.old.taken }
+    ensures sized { IfOk result (λ list. AreSized 1 1 store.new list.items) }
+    ensures paid { total_cost store.new ≤ steps.new.taken }
+{
+    let side = leaf(store, Amp::one(), steps)?;
+    let root = both(store, side, steps)?;
+    let mut list = Vec::new(alloc);
+    for _world in 0..count {
+        let world = known_world(alloc, store, root)?;
+        list.push(world)?;
+    }
+    Ok(list)
+}
+
+/// The steps that so many worlds of one state take, in which a branch with a gate is played.
+fn steps_in_branch(alloc: Global, count: usize) -> Result<u64, Fail> {
+    let mut store = Store::new(alloc);
+    let mut steps = Steps::new(1000);
+    let worlds = known_worlds(alloc, &mut store, count, &mut steps)?;
+    let before = steps.taken();
+    let body = branch(alloc)?;
+    match play(alloc, &mut store, worlds, body.as_slice(), &mut steps) {
+        Ok(_list) => Ok(steps.taken().wrapping_sub(before)),
+        Err(stop) => Err(Fail::from(stop)),
+    }
 }
 
 /// Bit 0 at the start and the only outcome, if both are there.
@@ -142,5 +214,15 @@ fn split_at_an_open_bit(rt: HostRuntime) -> Result<(), Fail> {
     assert_eq!(rt; same.len(), 2);
     assert_eq!(rt; decided(same.as_slice(), 0), Some((false, false)));
     assert_eq!(rt; decided(same.as_slice(), 1), Some((true, true)));
+    Ok(())
+}
+
+/// The flip makes no new node of |0> + |1>. It takes one step, to keep what it made of the root, and the worlds behind
+/// the first find that.
+#[test]
+fn worlds_in_a_branch_share_what_a_gate_made(rt: HostRuntime) -> Result<(), Fail> {
+    assert_eq!(rt; steps_in_branch(rt.alloc(), 1)?, 1);
+    assert_eq!(rt; steps_in_branch(rt.alloc(), 2)?, 1);
+    assert_eq!(rt; steps_in_branch(rt.alloc(), 9)?, 1);
     Ok(())
 }

@@ -6,11 +6,11 @@ use Rattle.aq_symbolic.proofs.fragment.go.Goals as goal
 
 pub alive-requires : goal.alive-requires
 alive-requires g c =
-    ends_fit g.L.Label.parts g.L.Label.part_count c.args.body.now c.args.store.now c.play_through.new.store c.args.steps.now c.play_through.new.steps c.args.worlds.items c.in_ok-ends.ends.items c.requires.playable c.in_ok-ends.ensures.ok
+    ends_fit g.L.Label.parts g.L.Label.part_count g.met.L.Label.all_parts c.args.body.now c.args.store.now c.play_through.new.store c.args.steps.now c.play_through.new.steps c.args.worlds.items c.in_ok-ends.ends.items c.requires.playable c.in_ok-ends.ensures.ok
 
 pub returns-clause-worlds : goal.returns-clause-worlds
 returns-clause-worlds g c =
-    goes_from g.L.Label.parts g.L.Label.part_count c.args.body.now c.args.store.now c.play_through.new.store c.args.steps.now c.play_through.new.steps c.args.worlds.items c.in_ok-ends.ends.items c.in-Ok.list.items c.in_ok-ends.ensures.ok c.in-Ok.ensures
+    goes_from g.L.Label.parts g.L.Label.part_count g.met.L.Label.all_parts c.args.body.now c.args.store.now c.play_through.new.store c.args.steps.now c.play_through.new.steps c.args.worlds.items c.in_ok-ends.ends.items c.in-Ok.list.items c.in_ok-ends.ensures.ok c.in-Ok.ensures
 
 pub returns-clause-steps : goal.returns-clause-steps
 returns-clause-steps g c = c.in_ok-ends.ensures.ok.takes (named_in c.args.body.now) (all_named c.args.body.now)

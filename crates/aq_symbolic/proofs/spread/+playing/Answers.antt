@@ -13,10 +13,11 @@ use Rattle.aq_symbolic.specs.Moves.{of_branch, of_stmt, of_gate, of_measurement,
 use Rattle.aq_symbolic.specs.Playing.{Collects, Leaves, Stops}
 use Rattle.aq_symbolic.specs.declared.kept.World.{World}
 use Rattle.aq_symbolic.proofs.BranchLemmas.{if_leaves, if_stops, if_unpaid, leaves_as, stops_as, taken_leaves, taken_stops}
-use Rattle.aq_symbolic.proofs.CallLemmas.{assume_bits, assume_start, assumed_leaves, fits_call, gate_call, if_bits, if_start, measure_bit, measure_qubit, memory_at, next_plays, next_uncut, no_plays, no_uncut, one_plays, one_stmt_plays, reset_qubit, yes_plays, yes_uncut}
-use Rattle.aq_symbolic.proofs.CollectLemmas.{collect_end, collect_none, collect_step, sized_at, stop_at}
+use Rattle.aq_symbolic.proofs.CallLemmas.{assume_bits, assume_start, assumed_leaves, fits_call, gate_call, if_bits, if_start, measure_bit, measure_qubit, memory_at, memory_done, next_plays, next_uncut, no_plays, no_uncut, one_plays, one_stmt_plays, reset_qubit, yes_plays, yes_uncut}
+use Rattle.aq_symbolic.proofs.CollectLemmas.{collect_end, collect_none, collect_step, stop_at}
 use Rattle.aq_symbolic.proofs.LeadLemmas.{leads_next, leads_out, leads_start, stop_next}
-use Rattle.aq_symbolic.proofs.MemoLemmas.{assume_out, gate_out, if_out, measure_out, memos_in, memos_new, memos_out, ok_always, ok_then, reset_out}
+use Rattle.aq_symbolic.proofs.MemoLemmas.{assume_out, gate_out, if_out, measure_out, memos_in, memos_out, ok_always, ok_then, reset_out}
+use Rattle.aq_symbolic.proofs.StockLemmas.{levels_same, stock_later, stock_put, stock_taken, memos_taken}
 use Rattle.aq_symbolic.proofs.MoveLemmas.{of_if, assume_move, gate_move, if_move, measure_move, reset_move}
 use Rattle.aq_symbolic.proofs.StopLemmas.{keeps_none, keeps_then}
 use Rattle.aq_symbolic.proofs.spread.+playing.Goals as goal
@@ -117,6 +118,20 @@ pub play_one-returns-in-Ok-clause-memos : goal.play_one-returns-in-Ok-clause-mem
 play_one-returns-in-Ok-clause-memos g t c =
     memos_out g.L.Label.parts g.L.Label.part_count (length c.args.world.lsta.shape.items) c.args.store.now c.args.memos.now c.args.stmt.now (Stmt-F.Assume c.in-Assume.guard) (assume_out c.args.stmt.now c.in-Assume.guard c.in-Assume.is) tt
 
+-- what is kept
+
+pub play_one-returns-in-Gate-clause-stock : goal.play_one-returns-in-Gate-clause-stock
+play_one-returns-in-Gate-clause-stock g t c =
+    ok_always c.play_gate.result (stock_later g.L.Label.parts g.L.Label.part_count c.args.store.now c.play_gate.new.store c.play_gate.ensures.keeps.table c.args.stock.now.entries.items c.requires.stock)
+
+pub play_one-returns-in-Measure-clause-stock : goal.play_one-returns-in-Measure-clause-stock
+play_one-returns-in-Measure-clause-stock g t c =
+    ok_always c.measure.result (stock_later g.L.Label.parts g.L.Label.part_count c.args.store.now c.measure.new.store c.measure.ensures.keeps.table c.args.stock.now.entries.items c.requires.stock)
+
+pub play_one-returns-in-Reset-clause-stock : goal.play_one-returns-in-Reset-clause-stock
+play_one-returns-in-Reset-clause-stock g t c =
+    ok_always c.reset.result (stock_later g.L.Label.parts g.L.Label.part_count c.args.store.now c.reset.new.store c.reset.ensures.keeps.table c.args.stock.now.entries.items c.requires.stock)
+
 pub play_one-returns-in-Gate-clause-ok : goal.play_one-returns-in-Gate-clause-ok
 play_one-returns-in-Gate-clause-ok g t c =
     ok_gives c.play_gate.result c.play_gate.ensures.ok
@@ -199,26 +214,26 @@ play_one-returns-in-Ok-clause-ok g t c =
 pub play_branch-returns-then-holds-clause-ok : goal.play_branch-returns-then-holds-clause-ok
 play_branch-returns-then-holds-clause-ok g t c =
     let bit = sym c.holds-holds.ensures ∙ c.if-holds.true in
-    ok_gives c.play.result c.play.ensures.ok
-    (λ list p. taken_leaves g.L.Label.parts g.L.Label.part_count c.args.guard.now c.args.yes.now c.args.no.now c.args.yes.now true c.args.store.now c.play.new.store c.args.steps.now c.play.new.steps c.args.world c.in-Ok.worlds.items list.items bit c.in-Ok.ensures refl p)
+    ok_gives c.play_inside.result c.play_inside.ensures.ok
+    (λ list p. taken_leaves g.L.Label.parts g.L.Label.part_count c.args.guard.now c.args.yes.now c.args.no.now c.args.yes.now true c.args.store.now c.play_inside.new.store c.args.steps.now c.play_inside.new.steps c.args.world c.in-Ok.worlds.items list.items bit c.in-Ok.ensures refl p)
 
 pub play_branch-returns-then-holds-clause-err : goal.play_branch-returns-then-holds-clause-err
 play_branch-returns-then-holds-clause-err g t c =
     let bit = sym c.holds-holds.ensures ∙ c.if-holds.true in
-    err_gives c.play.result c.play.ensures.err
-    (λ why p. taken_stops g.L.Label.parts g.L.Label.part_count c.args.guard.now c.args.yes.now c.args.no.now c.args.yes.now true c.args.store.now c.args.steps.now c.play.new.steps c.args.world c.in-Ok.worlds.items why bit c.in-Ok.ensures refl p)
+    err_gives c.play_inside.result c.play_inside.ensures.err
+    (λ why p. taken_stops g.L.Label.parts g.L.Label.part_count c.args.guard.now c.args.yes.now c.args.no.now c.args.yes.now true c.args.store.now c.args.steps.now c.play_inside.new.steps c.args.world c.in-Ok.worlds.items why bit c.in-Ok.ensures refl p)
 
 pub play_branch-returns-else-holds-clause-ok : goal.play_branch-returns-else-holds-clause-ok
 play_branch-returns-else-holds-clause-ok g t c =
     let bit = sym c.holds-holds.ensures ∙ c.if-holds.false in
-    ok_gives c.play-else-holds.result c.play-else-holds.ensures.ok
-    (λ list p. taken_leaves g.L.Label.parts g.L.Label.part_count c.args.guard.now c.args.yes.now c.args.no.now c.args.no.now false c.args.store.now c.play-else-holds.new.store c.args.steps.now c.play-else-holds.new.steps c.args.world c.in-Ok.worlds.items list.items bit c.in-Ok.ensures refl p)
+    ok_gives c.play_inside-else-holds.result c.play_inside-else-holds.ensures.ok
+    (λ list p. taken_leaves g.L.Label.parts g.L.Label.part_count c.args.guard.now c.args.yes.now c.args.no.now c.args.no.now false c.args.store.now c.play_inside-else-holds.new.store c.args.steps.now c.play_inside-else-holds.new.steps c.args.world c.in-Ok.worlds.items list.items bit c.in-Ok.ensures refl p)
 
 pub play_branch-returns-else-holds-clause-err : goal.play_branch-returns-else-holds-clause-err
 play_branch-returns-else-holds-clause-err g t c =
     let bit = sym c.holds-holds.ensures ∙ c.if-holds.false in
-    err_gives c.play-else-holds.result c.play-else-holds.ensures.err
-    (λ why p. taken_stops g.L.Label.parts g.L.Label.part_count c.args.guard.now c.args.yes.now c.args.no.now c.args.no.now false c.args.store.now c.args.steps.now c.play-else-holds.new.steps c.args.world c.in-Ok.worlds.items why bit c.in-Ok.ensures refl p)
+    err_gives c.play_inside-else-holds.result c.play_inside-else-holds.ensures.err
+    (λ why p. taken_stops g.L.Label.parts g.L.Label.part_count c.args.guard.now c.args.yes.now c.args.no.now c.args.no.now false c.args.store.now c.args.steps.now c.play_inside-else-holds.new.steps c.args.world c.in-Ok.worlds.items why bit c.in-Ok.ensures refl p)
 
 -- ---- world by world
 
@@ -231,6 +246,7 @@ play_branches-play_branch-requires g t c κs within =
     let yes = one_plays c.args.store.now c.loop-world.store all (length c.loop-world.yielded) c.in-Some.world c.args.yes.now turn.0 turn.1 c.loop-world.invariant.keeps.table c.requires.yes in
     let no = one_plays c.args.store.now c.loop-world.store all (length c.loop-world.yielded) c.in-Some.world c.args.no.now turn.0 turn.1 c.loop-world.invariant.keeps.table c.requires.no in
     let paid = c.loop-world.invariant.keeps.paid in
+    let stock = c.loop-world.invariant.stock in
     let less : 5 * (weight_of c.args.yes.now + weight_of c.args.no.now) + 3 < t = omega (arith, c.decreases) in
     search rules
 
@@ -260,6 +276,7 @@ play_branches-loop-world-preserved g t c =
     let len : vec_len c.args.worlds ≡ length all = search rules in
     let turn = YieldsList-turn (YieldsList-from_vec all given.0 (given.1 ∙ len)) c.loop-world.yielded c.loop-world.world-iterator c.loop-world.yielded_by c.next.result c.next.new.self c.in-Some.world c.in-Some.is c.next.ensures.steps in
     record {
+      stock = c.in_ok-more.ensures.stock;
       keeps = keeps_then c.args.store.now c.loop-world.store c.play_branch.new.store c.args.steps.now c.loop-world.steps c.play_branch.new.steps c.loop-world.invariant.keeps c.play_branch.ensures.keeps;
       made = collect_step g.L.Label.parts g.L.Label.part_count (of_branch c.args.guard.now c.args.yes.now c.args.no.now) c.args.store.now c.loop-world.store c.play_branch.new.store c.args.steps.now c.loop-world.steps c.play_branch.new.steps all (length c.loop-world.yielded) _ c.in-Some.world c.loop-world.list.items c.in_ok-more.more.items _
           (length-append c.loop-world.yielded (c.in-Some.world ∷ [])) c.in-Ok.ensures.items turn.0 turn.1 c.loop-world.invariant.keeps.table c.play_branch.ensures.keeps.table c.loop-world.invariant.made c.in_ok-more.ensures.ok;
@@ -273,8 +290,9 @@ play_each-play_one-requires g t c κs within =
     let turn = YieldsList-turn (YieldsList-from_vec all given.0 (given.1 ∙ len)) c.loop-world.yielded c.loop-world.world-iterator c.loop-world.yielded_by c.next.result c.next.new.self c.in-Some.world c.in-Some.is c.next.ensures.steps in
     let playable = one_stmt_plays c.args.store.now c.loop-world.store all (length c.loop-world.yielded) c.in-Some.world c.args.stmt.now turn.0 turn.1 c.loop-world.invariant.keeps.table c.requires.playable in
     let p = c.requires.playable in
-    let here = sized_at p.qubits p.bits c.args.store.now all (length c.loop-world.yielded) c.in-Some.world turn.0 turn.1 p.sized in
-    let memos = subst (λ k. AreMemos g.L.Label.parts g.L.Label.part_count k c.loop-world.store c.loop-world.memos c.args.stmt.now) (sym here.levels) (c.loop-world.invariant.memos p.qubits p.bits p.sized) in
+    let same = levels_same p.qubits p.bits c.args.store.now all c.deref.result.now (length c.loop-world.yielded) c.in-Some.world c.levels_of-levels.result turn.0 turn.1 p.sized c.deref.ensures.value c.levels_of-levels.ensures in
+    let memos = subst (λ k. AreMemos g.L.Label.parts g.L.Label.part_count k c.loop-world.store c.loop-world.memos c.args.stmt.now) same c.loop-world.invariant.memos in
+    let stock = c.loop-world.invariant.stock in
     let paid = c.loop-world.invariant.keeps.paid in
     let less : 5 * weight c.args.stmt.now < t = omega (arith, c.decreases) in
     search rules
@@ -305,7 +323,8 @@ play_each-loop-world-init g t c =
       keeps = keeps_none c.args.store.now c.args.steps.now c.requires.paid;
       made = subst (λ (l : List World). Collects g.L.Label.parts g.L.Label.part_count (of_stmt c.args.stmt.now) c.args.store.now c.args.store.now c.args.steps.now c.args.steps.now c.args.worlds.items [] l) (sym empty)
           (collect_none g.L.Label.parts g.L.Label.part_count (of_stmt c.args.stmt.now) c.args.store.now c.args.steps.now c.args.worlds.items);
-      memos = λ n m s. memos_new g.L.Label.parts g.L.Label.part_count n c.args.store.now c.new-memos.result c.new-memos.ensures c.args.stmt.now;
+      stock = stock_taken g.L.Label.parts g.L.Label.part_count c.args.store.now c.args.stmt.now c.levels_of-levels.result c.args.stock.now.entries.items c.take-memos.new.self.entries.items c.take-memos.result c.take-memos.ensures c.requires.stock;
+      memos = memos_taken g.L.Label.parts g.L.Label.part_count c.args.store.now c.args.stmt.now c.levels_of-levels.result c.args.stock.now.entries.items c.take-memos.new.self.entries.items c.take-memos.result c.take-memos.ensures c.requires.stock;
     }
 
 pub play_each-loop-world-preserved : goal.play_each-loop-world-preserved
@@ -315,16 +334,31 @@ play_each-loop-world-preserved g t c =
     let len : vec_len c.args.worlds ≡ length all = search rules in
     let turn = YieldsList-turn (YieldsList-from_vec all given.0 (given.1 ∙ len)) c.loop-world.yielded c.loop-world.world-iterator c.loop-world.yielded_by c.next.result c.next.new.self c.in-Some.world c.in-Some.is c.next.ensures.steps in
     record {
+      stock = c.in_ok-more.ensures.stock;
       keeps = keeps_then c.args.store.now c.loop-world.store c.play_one.new.store c.args.steps.now c.loop-world.steps c.play_one.new.steps c.loop-world.invariant.keeps c.play_one.ensures.keeps;
       made = collect_step g.L.Label.parts g.L.Label.part_count (of_stmt c.args.stmt.now) c.args.store.now c.loop-world.store c.play_one.new.store c.args.steps.now c.loop-world.steps c.play_one.new.steps all (length c.loop-world.yielded) _ c.in-Some.world c.loop-world.list.items c.in_ok-more.more.items _
           (length-append c.loop-world.yielded (c.in-Some.world ∷ [])) c.in-Ok.ensures.items turn.0 turn.1 c.loop-world.invariant.keeps.table c.play_one.ensures.keeps.table c.loop-world.invariant.made c.in_ok-more.ensures.ok;
-      memos = λ n m s.
-          let here = sized_at n m c.args.store.now all (length c.loop-world.yielded) c.in-Some.world turn.0 turn.1 s in
-          subst (λ k. AreMemos g.L.Label.parts g.L.Label.part_count k c.play_one.new.store c.play_one.new.memos c.args.stmt.now) here.levels c.in_ok-more.ensures.memos;
+      memos =
+          let p = c.requires.playable in
+          let same = levels_same p.qubits p.bits c.args.store.now all c.deref.result.now (length c.loop-world.yielded) c.in-Some.world c.levels_of-levels.result turn.0 turn.1 p.sized c.deref.ensures.value c.levels_of-levels.ensures in
+          subst (λ k. AreMemos g.L.Label.parts g.L.Label.part_count k c.play_one.new.store c.play_one.new.memos c.args.stmt.now) (sym same) c.in_ok-more.ensures.memos;
     }
 
 pub play_each-returns-in_err-more-clause-keeps : goal.play_each-returns-in_err-more-clause-keeps
 play_each-returns-in_err-more-clause-keeps g t c = keeps_then c.args.store.now c.loop-world.store c.play_one.new.store c.args.steps.now c.loop-world.steps c.play_one.new.steps c.loop-world.invariant.keeps c.play_one.ensures.keeps
+
+pub play_each-returns-in_default-put-clause-err : goal.play_each-returns-in_default-put-clause-err
+play_each-returns-in_default-put-clause-err g t c =
+    let all = c.args.worlds.items in
+    let given = c.into_iter-world-iterator.ensures.into_iter_gives in
+    let len : vec_len c.args.worlds ≡ length all = search rules in
+    let end = YieldsList-end (YieldsList-from_vec all given.0 (given.1 ∙ len)) c.loop-world.yielded c.loop-world.world-iterator c.loop-world.yielded_by c.next.result c.next.new.self c.in-None.is c.next.ensures.steps in
+    memory_done g.L.Label.parts g.L.Label.part_count (of_stmt c.args.stmt.now) c.args.store.now c.loop-world.store c.args.steps.now c.loop-world.steps all c.loop-world.list.items
+    (collect_end g.L.Label.parts g.L.Label.part_count (of_stmt c.args.stmt.now) c.args.store.now c.loop-world.store c.args.steps.now c.loop-world.steps all c.loop-world.list.items (length c.loop-world.yielded) end.1 c.loop-world.invariant.made)
+
+pub play_each-returns-clause-stock : goal.play_each-returns-clause-stock
+play_each-returns-clause-stock g t c =
+    stock_put g.L.Label.parts g.L.Label.part_count c.loop-world.store c.args.stmt.now c.levels_of-levels.result c.loop-world.memos c.loop-world.stock.entries.items c.put.new.self.entries.items c.in-Ok-put.ensures c.loop-world.invariant.memos c.loop-world.invariant.stock
 
 pub play_each-returns-clause-ok : goal.play_each-returns-clause-ok
 play_each-returns-clause-ok g t c =
@@ -334,16 +368,17 @@ play_each-returns-clause-ok g t c =
     let end = YieldsList-end (YieldsList-from_vec all given.0 (given.1 ∙ len)) c.loop-world.yielded c.loop-world.world-iterator c.loop-world.yielded_by c.next.result c.next.new.self c.in-None.is c.next.ensures.steps in
     collect_end g.L.Label.parts g.L.Label.part_count (of_stmt c.args.stmt.now) c.args.store.now c.loop-world.store c.args.steps.now c.loop-world.steps all c.loop-world.list.items (length c.loop-world.yielded) end.1 c.loop-world.invariant.made
 
--- ---- statements in order
+-- ---- the statements of a branch in order
 
-pub play-loop-stmt-init : goal.play-loop-stmt-init
-play-loop-stmt-init g t c = record {
+pub play_inside-loop-stmt-init : goal.play_inside-loop-stmt-init
+play_inside-loop-stmt-init g t c = record {
   keeps = keeps_none c.args.store.now c.args.steps.now c.requires.paid;
+  stock = c.requires.stock;
   leads = leads_start g.L.Label.parts g.L.Label.part_count c.args.body.now c.args.store.now c.args.steps.now c.args.worlds.items;
 }
 
-pub play-play_each-requires : goal.play-play_each-requires
-play-play_each-requires g t c κs within =
+pub play_inside-play_each-requires : goal.play_inside-play_each-requires
+play_inside-play_each-requires g t c κs within =
     let i = c.loop-stmt.stmt-index in
     let body = c.args.body.now in
     let x = c.stmt-item.result in
@@ -352,24 +387,26 @@ play-play_each-requires g t c κs within =
     let playable = next_plays g.L.Label.parts g.L.Label.part_count body c.args.store.now c.loop-stmt.store c.args.steps.now c.loop-stmt.steps c.args.worlds.items i x (drop i body) c.loop-stmt.left.items c.loop-stmt-test.true c.stmt-item.is c.loop-stmt.invariant.leads c.requires.playable in
     let free = next_uncut i body x x c.loop-stmt-test.true c.stmt-item.is c.requires.uncut in
     let paid = c.loop-stmt.invariant.keeps.paid in
+    let stock = c.loop-stmt.invariant.stock in
     search rules
 
-pub play-returns-in_err-left-clause-err : goal.play-returns-in_err-left-clause-err
-play-returns-in_err-left-clause-err g t c =
+pub play_inside-returns-in_err-left-clause-err : goal.play_inside-returns-in_err-left-clause-err
+play_inside-returns-in_err-left-clause-err g t c =
     passed_on _ c.from_residual.result c.in_err-left.field-0.0 c.from_residual.ensures
     (stop_next g.L.Label.parts g.L.Label.part_count c.args.body.now c.args.store.now c.loop-stmt.store c.args.steps.now c.loop-stmt.steps c.play_each.new.steps c.args.worlds.items c.loop-stmt.stmt-index c.stmt-item.result c.loop-stmt.left.items c.in_err-left.field-0.0
     c.loop-stmt-test.true c.stmt-item.is c.loop-stmt.invariant.keeps.limit c.loop-stmt.invariant.leads c.in_err-left.ensures.err)
 
-pub play-loop-stmt-preserved : goal.play-loop-stmt-preserved
-play-loop-stmt-preserved g t c =
+pub play_inside-loop-stmt-preserved : goal.play_inside-loop-stmt-preserved
+play_inside-loop-stmt-preserved g t c =
     record {
       keeps = keeps_then c.args.store.now c.loop-stmt.store c.play_each.new.store c.args.steps.now c.loop-stmt.steps c.play_each.new.steps c.loop-stmt.invariant.keeps c.play_each.ensures.keeps;
+      stock = c.in_ok-left.ensures.stock;
       leads = leads_next g.L.Label.parts g.L.Label.part_count c.args.body.now c.args.store.now c.loop-stmt.store c.play_each.new.store c.args.steps.now c.loop-stmt.steps c.play_each.new.steps c.args.worlds.items c.loop-stmt.stmt-index c.stmt-item.result c.loop-stmt.left.items c.in_ok-left.left.items
           c.loop-stmt-test.true c.stmt-item.is c.loop-stmt.invariant.leads c.in_ok-left.ensures.ok;
     }
 
-pub play-returns-clause-ok : goal.play-returns-clause-ok
-play-returns-clause-ok g t c =
+pub play_inside-returns-clause-ok : goal.play_inside-returns-clause-ok
+play_inside-returns-clause-ok g t c =
     let body = c.args.body.now in
     let none : drop c.loop-stmt.stmt-index body ≡ [] = drop_of_length-le body (omega (arith, c.loop-stmt-test.false)) in
     leads_out g.L.Label.parts g.L.Label.part_count body c.args.store.now c.loop-stmt.store c.args.steps.now c.loop-stmt.steps c.args.worlds.items c.loop-stmt.left.items (drop c.loop-stmt.stmt-index body) none c.loop-stmt.invariant.leads

@@ -23,13 +23,13 @@ loop-level-preserved c = record {
 pub returns : goal.returns
 returns c =
     let done : c.loop-level._level ≡ c.args.levels = omega (arith, c.loop-level-test.false, c.loop-level.auto._level-end) in
-    let none = still-empty {X = Macro} c.loop-level.macros.items c.push-2.new.self.items c.new-2.result c.in_ok-push-4.ensures.items c.new-2.ensures c.loop-level.invariant.no_macros in
+    let none = still-empty {X = Macro} c.loop-level.macros.items c.push-2.new.self.items c.new-2.result c.in_ok-push-3.ensures.items c.new-2.ensures c.loop-level.invariant.no_macros in
     record {
       even = record {
-        rows = one-more {X = Macro} c.loop-level.macros.items c.push-2.new.self.items c.new-2.result c.loop-level._level c.in_ok-push-4.ensures.items c.loop-level.invariant.macros ∙ ap (λ z. z + 1) done;
+        rows = one-more {X = Macro} c.loop-level.macros.items c.push-2.new.self.items c.new-2.result c.loop-level._level c.in_ok-push-3.ensures.items c.loop-level.invariant.macros ∙ ap (λ z. z + 1) done;
         edge_rows = c.loop-level.invariant.edges ∙ done;
         inner = λ k less. none k ∙ sym (c.loop-level.invariant.no_edges k);
-        last = none c.args.levels ∙ sym (ap (λ l. length l) c.new-4.ensures);
+        last = none c.args.levels ∙ sym (ap (λ l. length l) c.new-3.ensures);
       };
       none = none;
     }
