@@ -16,7 +16,7 @@ use Rattle.aq_cert.specs.declared.index.Index.{Index}
 use Rattle.aq_cert.specs.Rows.{item_of, item_at, list_of, row_at}
 use Rattle.aq_cert.specs.Goals.{goal_levels}
 use Rattle.aq_cert.specs.Valid.{left_level, goal_level}
-use Rattle.aq_cert.specs.Placed.{IsAt, IsPairAt, IsIndexOf, IsPlacedRel, IsPlacedMacro, IsFound, IsPairFound, IsRelFound, IsMacroFound, HasPlace, HasRelPlaces, HasMacroPlaces, StandsIn, StandsAt, lists_in, AreIndexes, ArePlaced, AreGoalLevels}
+use Rattle.aq_cert.specs.Placed.{IsAt, IsPairAt, IsIndexOf, IsPlacedRel, IsPlacedMacro, IsFound, IsPairFound, IsRelFound, IsMacroFound, HasPlace, HasMacroPlaces, StandsIn, StandsAt, lists_in, AreIndexes, ArePlaced, AreGoalLevels}
 
 module _ {X : Type 0} (R : X → X → Type 0) where
   -- one item more

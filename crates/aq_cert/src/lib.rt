@@ -2,6 +2,7 @@
 #![tactic(auto)]
 
 mod cert;
+mod copied;
 mod index;
 pub mod laws;
 mod placed;

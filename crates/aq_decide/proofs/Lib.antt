@@ -15,5 +15,6 @@ pub mod SplitLemmas
 pub mod BuildLemmas
 pub mod CaseLemmas
 pub mod SpreadLemmas
+pub mod CertifiedLemmas
 pub mod JudgeLemmas
 pub mod VerdictLemmas

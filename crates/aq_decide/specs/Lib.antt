@@ -8,4 +8,5 @@ pub mod Reading
 pub mod Splitting
 pub mod Playing
 pub mod Deciding
+pub mod Certified
 pub mod Judging

@@ -7,16 +7,19 @@ ghost use Rattle.aq_obligations.specs.Worlds as meant;
 ghost use Rattle.aq_decide.specs.Asked.{CanBeDecided};
 ghost use Rattle.aq_include.specs.Costs.{Takes};
 ghost use Rattle.aq_decide.specs.Budgets.{judge_budget};
+ghost use Rattle.aq_decide.specs.Certified.{AreCertified, AreCertifiedAfter};
 ghost use Rattle.aq_decide.specs.Goals.{AreBuilt};
 ghost use Rattle.aq_decide.specs.Judging.{IsPaidFor, IsPaidWithin, Judges, Tells};
 ghost use Rattle.aq_decide.specs.Kept.{AreWorlds, IsWorld};
 ghost use Rattle.aq_decide.specs.Stops.{GivesUpFor};
 
+use crate::certified::{Findings, include_once};
 use crate::decision::Decision;
 use crate::goals::goals_in;
 use crate::reading::vector_of;
+use aq_cert::Cert;
 use aq_correct::laws;
-use aq_include::{Answer, include};
+use aq_include::Answer;
 use aq_obligations::Obligation;
 use aq_prog::Program;
 use aq_ring::Amp;
@@ -27,6 +30,7 @@ use sqlite_items::Items;
 use std::alloc::Global;
 
 /// Whether each vector of the world that isn't zero is a nonzero multiple of one that the goal allows for its bits.
+/// `certs` are the certificates of the worlds before, and `known` what they show.
 fn judge_world(
     alloc: Global,
     store: &Store<Amp>,
@@ -35,6 +39,8 @@ fn judge_world(
     obligation: &Obligation,
     goals: &[Lsta],
     world: &World,
+    known: &mut Findings,
+    certs: &Items<Cert>,
     steps: &mut Steps,
 ) -> Result<Answer, Stop<Amp>>
     requires asked { CanBeDecided program.now sets.now obligation.now }
@@ -42,10 +48,12 @@ fn judge_world(
     requires built { AreBuilt sets.now obligation.now.goal.cases store.now goals.now }
     requires world { (u : meant.World) × Contains (worlds (meaning_of program.now sets.now obligation.now)) u
         × IsWorld sets.now obligation.now.from store.now world.now u }
+    requires known { AreCertified store.now certs.now known.old }
     ensures answer { let all = worlds (meaning_of program.now sets.now obligation.now) in
         let is_world = IsWorld sets.now obligation.now.from store.now world.now in
         IfOk result (λ a. (u : meant.World) → Contains all u → (is : is_world u)
         → Tells program.now sets.now obligation.now is.bound u a) }
+    ensures known { IfOk result (λ a. AreCertifiedAfter store.now certs.now known.new a) }
     ensures paid { IfOk result (λ a. IsPaidWithin (length obligation.now.goal.cases) steps.old steps.new a) }
     ensures takes { Takes (judge_budget sets.now obligation.now (world.now ∷ [])) steps.old steps.new }
     ensures stops { let wide = WideComparison (meaning_of program.now sets.now obligation.now) in
@@ -57,7 +65,15 @@ fn judge_world(
     let Ok(met) = goals_in(alloc, cases, goals, world.bits.as_slice()) else {
         return Err(Stop::Memory);
     };
-    include(store, alloc, &world.lsta, met.as_slice(), steps)
+    include_once(
+        alloc,
+        store,
+        known,
+        certs,
+        &world.lsta,
+        met.as_slice(),
+        steps,
+    )
 }
 
 /// Judges the obligation's worlds, in order: either none of their vectors escapes, with a certificate for each world;
@@ -92,9 +108,10 @@ pub fn judge_worlds(
 {
     let _taken = steps.taken();
     let mut certs = Items::new(alloc);
+    let mut known = Findings::new(alloc);
     for world in worlds {
         match judge_world(
-            alloc, store, program, sets, obligation, goals, &world, steps,
+            alloc, store, program, sets, obligation, goals, &world, &mut known, &certs, steps,
         )? {
             Answer::Included(cert) => {
                 let Ok(()) = certs.push(cert) else {

@@ -7,6 +7,7 @@
 
 mod building;
 mod case;
+mod certified;
 mod decision;
 mod goals;
 mod judge;

@@ -14,6 +14,7 @@ use crate::spread::all_worlds;
 use aq_obligations::Obligation;
 use aq_prog::Program;
 use aq_ring::Amp;
+use aq_set_build::Built;
 use aq_sets::Sets;
 use aq_store::{Steps, Stop, Store};
 use std::alloc::Global;
@@ -46,8 +47,16 @@ pub fn decide(
         return Err(Stop::Memory);
     };
     let mut store = Store::new(alloc);
-    let goals = automata(alloc, &mut store, sets, cases, steps)?;
-    let sources = automata(alloc, &mut store, sets, obligation.from.as_slice(), steps)?;
+    let mut memo = Built::new(alloc);
+    let goals = automata(alloc, &mut store, &mut memo, sets, cases, steps)?;
+    let sources = automata(
+        alloc,
+        &mut store,
+        &mut memo,
+        sets,
+        obligation.from.as_slice(),
+        steps,
+    )?;
     let worlds = all_worlds(
         alloc,
         &mut store,

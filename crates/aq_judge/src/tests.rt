@@ -445,6 +445,22 @@ fn outcomes_one_by_one(rt: HostRuntime) -> Result<(), Fail> {
 }
 
 #[test]
+fn outcomes_with_one_end(rt: HostRuntime) -> Result<(), Fail> {
+    let alloc = rt.alloc();
+    let toss = &[Part::Gate(b"h"), Part::Measurement, Part::FlipIfOne];
+    let told = obligation(alloc, From::Start, toss, &[(0, None)], &[(0, None)])?;
+    let judged = judged(alloc, Amp::one(), &told, LIMIT)?;
+    assert_eq!(rt; told_by(&judged.verdict), Said::Verified);
+    assert_eq!(rt; judged.certs.len(), 2);
+    let first = judged.certs.get(0).ok_or("first")?;
+    let second = judged.certs.get(1).ok_or("second")?;
+    assert_eq!(rt; first.macros.len(), second.macros.len());
+    assert_eq!(rt; first.edges.len(), second.edges.len());
+    assert!(rt; first.ends.as_slice() == second.ends.as_slice());
+    Ok(())
+}
+
+#[test]
 fn bits_that_are_open(rt: HostRuntime) -> Result<(), Fail> {
     let alloc = rt.alloc();
     let one = Amp::one();

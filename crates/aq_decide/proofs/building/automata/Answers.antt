@@ -1,13 +1,11 @@
 use Rattle.std.proofs.Common.{◌+◌, refl, rules}
 use Rattle.aq_store.proofs.StopLemmas.{passed_on}
-use Rattle.aq_set_build.specs.Built.{built_at}
-use Rattle.aq_set_build.proofs.BuiltLemmas.{build_memo-none}
 use Rattle.aq_decide.proofs.BuildLemmas.{grows_at, grows_more, made_more, stops_at}
 use Rattle.aq_decide.proofs.building.automata.Goals as goal
 
 pub loop-case-init : goal.loop-case-init
 loop-case-init c =
-    let m = build_memo-none c.args.sets.now.exprs c.args.store.now (built_at c.new-memo.result) c.new-memo.ensures in
+    let m = c.requires.memo in
     search rules
 
 pub returns-in_err-made-clause-grows : goal.returns-in_err-made-clause-grows

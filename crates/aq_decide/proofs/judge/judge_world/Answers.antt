@@ -18,16 +18,16 @@ use Rattle.aq_decide.proofs.judge.judge_world.Goals as goal
 pub goals_in-requires : goal.goals_in-requires
 goals_in-requires c = ap (λ (l : List BoundCase). length l) c.as_slice-cases.ensures ∙ as_many c.args.sets.now c.args.store.now c.args.obligation.now.goal.cases c.args.goals.now c.requires.built
 
-pub include-requires-clause-fits : goal.include-requires-clause-fits
-include-requires-clause-fits c =
+pub include_once-requires-clause-fits : goal.include_once-requires-clause-fits
+include_once-requires-clause-fits c =
     let s = c.args.sets.now in
     let o = c.args.obligation.now in
     let built = met_built s c.args.store.now o.goal.cases c.as_slice-cases.result.now c.args.goals.now c.in-Ok.met.items c.as_slice-2.result.now c.args.world.now.bits c.as_slice.result.now c.as_slice-cases.ensures c.as_slice.ensures
     c.as_slice-2.ensures.value c.requires.built c.in-Ok.ensures in
     fit_together c.args.program.now s o c.requires.asked c.args.store.now c.args.world.now c.as_slice-2.result.now built c.requires.world.0 c.requires.world.2
 
-pub include-requires-clause-few : goal.include-requires-clause-few
-include-requires-clause-few c =
+pub include_once-requires-clause-few : goal.include_once-requires-clause-few
+include_once-requires-clause-few c =
     let s = c.args.sets.now in
     let o = c.args.obligation.now in
     let built = met_built s c.args.store.now o.goal.cases c.as_slice-cases.result.now c.args.goals.now c.in-Ok.met.items c.as_slice-2.result.now c.args.world.now.bits c.as_slice.result.now c.as_slice-cases.ensures c.as_slice.ensures
@@ -45,7 +45,7 @@ returns-clause-answer c =
     let met = c.as_slice-2.result.now in
     let built = met_built s table o.goal.cases c.as_slice-cases.result.now c.args.goals.now c.in-Ok.met.items met w.bits c.as_slice.result.now c.as_slice-cases.ensures c.as_slice.ensures c.as_slice-2.ensures.value c.requires.built c.in-Ok.ensures in
     ok_map (Answers alone table w.lsta met) (λ a. (u : meant.World) → Contains (worlds (meaning_of p s o)) u → (is : IsWorld s o.from table w u) → Tells p s o is.bound u a)
-    (λ a h. tells p s o c.requires.asked table w met built c.worlds.ensures.cover a h) c.include.result c.include.ensures.answer
+    (λ a h. tells p s o c.requires.asked table w met built c.worlds.ensures.cover a h) c.include_once.result c.include_once.ensures.answer
 
 pub returns-clause-paid : goal.returns-clause-paid
 returns-clause-paid c =
@@ -56,8 +56,8 @@ returns-clause-paid c =
     let table = c.args.store.now in
     let met = c.as_slice-2.result.now in
     let built = met_built s table o.goal.cases c.as_slice-cases.result.now c.args.goals.now c.in-Ok.met.items met w.bits c.as_slice.result.now c.as_slice-cases.ensures c.as_slice.ensures c.as_slice-2.ensures.value c.requires.built c.in-Ok.ensures in
-    ok_map (IsPaid met c.args.steps.now c.include.new.steps) (IsPaidWithin (length o.goal.cases) c.args.steps.now c.include.new.steps)
-    (λ a h. paid_within p s o c.requires.asked table w met built c.args.steps.now c.include.new.steps a h) c.include.result c.include.ensures.size
+    ok_map (IsPaid met c.args.steps.now c.include_once.new.steps) (IsPaidWithin (length o.goal.cases) c.args.steps.now c.include_once.new.steps)
+    (λ a h. paid_within p s o c.requires.asked table w met built c.args.steps.now c.include_once.new.steps a h) c.include_once.result c.include_once.ensures.size
 
 pub returns-clause-takes : goal.returns-clause-takes
 returns-clause-takes c =
@@ -67,7 +67,7 @@ returns-clause-takes c =
     let table = c.args.store.now in
     let met = c.as_slice-2.result.now in
     let built = met_built s table o.goal.cases c.as_slice-cases.result.now c.args.goals.now c.in-Ok.met.items met w.bits c.as_slice.result.now c.as_slice-cases.ensures c.as_slice.ensures c.as_slice-2.ensures.value c.requires.built c.in-Ok.ensures in
-    takes_within c.args.program.now s o c.requires.asked table w met built c.args.steps.now c.include.new.steps c.include.ensures.takes
+    takes_within c.args.program.now s o c.requires.asked table w met built c.args.steps.now c.include_once.new.steps c.include_once.ensures.takes
 
 pub returns-clause-stops : goal.returns-clause-stops
 returns-clause-stops c =
@@ -79,8 +79,8 @@ returns-clause-stops c =
     let met = c.as_slice-2.result.now in
     let built = met_built s table o.goal.cases c.as_slice-cases.result.now c.args.goals.now c.in-Ok.met.items met w.bits c.as_slice.result.now c.as_slice-cases.ensures c.as_slice.ensures c.as_slice-2.ensures.value c.requires.built c.in-Ok.ensures in
     err_map (StopsFor alone table w.lsta met) (IsCause (search_budget w.lsta met) c.args.steps.now) (GivesUpFor (WideComparison (meaning_of p s o)) (judge_budget s o (w ∷ [])) c.args.steps.now)
-    (λ e h g. judge_stops p s o c.requires.asked table w met built c.worlds.ensures.cover c.worlds.ensures.compare c.requires.world.0 c.requires.world.1 c.requires.world.2 c.args.steps.now e h g) c.include.result c.include.ensures.wide
-    c.include.ensures.spent
+    (λ e h g. judge_stops p s o c.requires.asked table w met built c.worlds.ensures.cover c.worlds.ensures.compare c.requires.world.0 c.requires.world.1 c.requires.world.2 c.args.steps.now e h g) c.include_once.result c.include_once.ensures.wide
+    c.include_once.ensures.spent
 
 pub returns-in_default-clause-takes : goal.returns-in_default-clause-takes
 returns-in_default-clause-takes c = record { later = omega arith; cheap = omega arith; same = refl }
