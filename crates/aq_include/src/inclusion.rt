@@ -79,9 +79,7 @@ pub fn include<L: Label>(
     let Ok(root) = root_macro(alloc, left, goals) else {
         return Err(Stop::Memory);
     };
-    match visit(
-        store, alloc, left, goals, &mut table, 0, root, steps,
-    )? {
+    match visit(store, alloc, left, goals, &mut table, 0, root, steps)? {
         Found::Reached(_) => {
             let Ok(places) = with_places(store, alloc, left, goals, table.macros.as_slice()) else {
                 return Err(Stop::Memory);

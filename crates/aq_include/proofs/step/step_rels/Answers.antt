@@ -13,8 +13,8 @@ goal_choices-count-requires g c =
 pub step_rel-requires : goal.step_rel-requires
 step_rel-requires g c = record {
   within = (at-rel c.args.store.now c.args.goals.now c.args.level c.args.choice c.requires.here.0 c.args.here.now c.requires.here.1 c.requires.here.2 c.loop-number.number c.index-rels-number.result c.goal_choices-count.result
-    (read-rel c.args.store.now c.as_slice-rels.result.now c.args.here.now.rels c.loop-number.number c.index-rels-number.result c.as_slice-rels.ensures c.loop-number-test.true c.index-rels-number.is)
-    c.goal_choices-count.ensures).within;
+      (read-rel c.args.store.now c.as_slice-rels.result.now c.args.here.now.rels c.loop-number.number c.index-rels-number.result c.as_slice-rels.ensures c.loop-number-test.true c.index-rels-number.is)
+      c.goal_choices-count.ensures).within;
 }
 
 pub returns-in_err-more-clause-takes : goal.returns-in_err-more-clause-takes
