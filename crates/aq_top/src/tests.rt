@@ -483,6 +483,67 @@ fn replays(rt: HostRuntime) -> Result<(), Fail> {
     Ok(())
 }
 
+/// A state is sent to the last qubit by two bits.
+const TELEPORTATION: &[u8] = b"bit[2] c; qubit[3] q; h q[1]; cx q[1], q[2]; cx q[0], q[1]; h q[0];
+c[0] = measure q[0]; c[1] = measure q[1]; if (c[1]) { x q[2]; } if (c[0]) { z q[2]; }";
+
+/// The claims of a teleportation, but for the end with these bits.
+fn claims_without(alloc: Global, bits: &str) -> Result<Text, AllocError> {
+    let ends: [(&str, &[u8]); 4] = [
+        ("00", b", [|00>] * psi when c[0] == 0 and c[1] == 0"),
+        ("01", b", [|01>] * psi when c[0] == 0 and c[1] == 1"),
+        ("10", b", [|10>] * psi when c[0] == 1 and c[1] == 0"),
+        ("11", b", [|11>] * psi when c[0] == 1 and c[1] == 1"),
+    ];
+    let mut text = Text::from_slice(
+        alloc,
+        b"set psi = [|0> + w|1>]; set start = psi * [|00>]; claim pre = start; claim post = [0|000>]",
+    )?;
+    for (name, end) in ends.iter() {
+        if *name != bits {
+            text.extend(end)?;
+        }
+    }
+    text.extend(b";")?;
+    Ok(text)
+}
+
+/// What the run with these outcomes leaves, which are the bits too.
+fn end_of_run(alloc: Global, bits: &str) -> Result<String, AllocError> {
+    format!(in alloc; "bits {bits}\nend |{bits}0> (1,0,0,0)/2\nend |{bits}1> (0,1,0,0)/2\n")
+}
+
+/// What shows that the world with these outcomes isn't allowed.
+fn shown_world(alloc: Global, bits: &str) -> Result<String, AllocError> {
+    let start =
+        "1 post: refuted\n  bits 00\n  state |000> (1,0,0,0)/0\n  state |100> (0,1,0,0)/0\n";
+    let end = format!(in alloc; "  end |{bits}0> (1,0,0,0)/2\n  end |{bits}1> (0,1,0,0)/2\n")?;
+    let counts = "verified 0, refuted 1, gave up 0\n";
+    format!(in alloc; "{start}  outcomes {bits}\n  end bits {bits}\n{end}{counts}")
+}
+
+/// The worlds of a teleportation are its four runs: where the claim leaves one end out, the world that has it is shown,
+/// and the run with its outcomes has the same end.
+#[test]
+fn worlds_are_runs(rt: HostRuntime) -> Result<(), Fail> {
+    let alloc = rt.alloc();
+    for bits in ["00", "01", "10", "11"] {
+        let claims = claims_without(alloc, bits)?;
+        let (_refuted, report) = answer(alloc, TELEPORTATION, claims.as_slice())?;
+        let world = shown_world(alloc, bits)?;
+        assert_eq!(rt;
+            report.as_slice(),
+            world.as_str().as_bytes(),
+            "the world {bits}"
+        );
+        let more = ["--state", "start", "--outcomes", bits];
+        let (_good, run) = replayed(alloc, TELEPORTATION, claims.as_slice(), more.as_slice())?;
+        let end = end_of_run(alloc, bits)?;
+        assert_eq!(rt; run.as_slice(), end.as_str().as_bytes(), "the run {bits}");
+    }
+    Ok(())
+}
+
 #[test]
 fn refusals_of_replays(rt: HostRuntime) -> Result<(), Fail> {
     let (short, bytes) = replayed(rt.alloc(), MEASURED, ZERO, &["--state", "zero"])?;
