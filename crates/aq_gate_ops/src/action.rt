@@ -38,7 +38,8 @@ impl Acting {
 }
 
 /// What the gate makes of a node at a depth that is no deeper than the target. The memo has what it made of nodes that
-/// were met before, and the rows those of pairs below the target.
+/// were met before, and the rows those of pairs below the target. A node whose vectors are all zero stays, and has no
+/// entry.
 #[cycle(act)]
 fn act_at<L: Label>(
     alloc: Global,
@@ -80,6 +81,9 @@ fn act_at<L: Label>(
         IfErr result (StopsGate holds (suc above) below 0 memo.old rows.old steps.old steps.new) }
     ensures cause { IfErr result (IsCause (PlaceCause L.parts L.part_count gate.now shape.now depth store.old id)) }
 {
+    if store.is_zero(id) {
+        return Ok(id);
+    }
     if let Some(made) = memo.get(id) {
         return Ok(made);
     }

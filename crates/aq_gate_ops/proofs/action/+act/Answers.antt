@@ -17,9 +17,18 @@ use Rattle.aq_gate_ops.specs.Accounts.{is_made, row_prices, gate_owed}
 use Rattle.aq_gate_ops.proofs.CauseLemmas.{cause_map, alone_cause, act_cause_kept, act_cause_choice, act_cause_target, act_cause_low, act_cause_high}
 use Rattle.aq_gate_ops.proofs.GateAccounts.{AreGateLevels-Extends, gate_pair, key_held, both_held, place_paid, target_paid, side_paid, place_more, target_more, side_more, place_put}
 use Rattle.aq_gate_ops.proofs.RowAccounts.{pays_then, pays_nothing}
+use Rattle.aq_gate_ops.proofs.ZeroLemmas.{place_zero}
 use Rattle.aq_gate_ops.proofs.StoppedLemmas.{stopped_within, stopped_memory, stopped_put, stopped_add, added_besides}
 use Rattle.aq_gate_ops.proofs.GateLemmas.{act_found, act_target, act_both, act_off, acted_none, IsActMemo-Extends, IsActMemo-put, IsRowMemo-Extends}
 use Rattle.aq_gate_ops.proofs.action.+act.Goals as goal
+
+pub act_at-returns-then-is_zero-clause-image : goal.act_at-returns-then-is_zero-clause-image
+act_at-returns-then-is_zero-clause-image g t c =
+    place_zero g.L.Label.parts g.L.Label.part_count c.args.gate.now c.args.shape.now c.args.depth c.args.store.now c.args.id c.requires.shape c.if-is_zero.ensures.null
+
+pub act_at-returns-then-is_zero-clause-steps : goal.act_at-returns-then-is_zero-clause-steps
+act_at-returns-then-is_zero-clause-steps g t c =
+    λ levels pairs h. pays_nothing _ _ _ c.args.store.now c.args.steps.now
 
 pub act_at-returns-in-Some-clause-image : goal.act_at-returns-in-Some-clause-image
 act_at-returns-in-Some-clause-image g t c = act_found g.L.Label.parts g.L.Label.part_count c.args.gate.now c.args.shape.now c.args.store.now (memo_at c.args.memo.now) c.args.depth c.args.id c.in-Some.made c.requires.memo (omega (arith, c.requires.deep, c.requires.valid.target)) c.requires.shape (sym c.in-Some.ensures)

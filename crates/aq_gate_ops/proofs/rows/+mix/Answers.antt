@@ -18,12 +18,21 @@ use Rattle.std.proofs.Common.{◌*◌, is_some}
 use Rattle.aq_gate_ops.proofs.CauseLemmas.{cause_map, alone_cause, row_cause_leaf, rows_cause_kept, row_cause_low, row_cause_high, row_cause_choice}
 use Rattle.aq_gate_ops.proofs.RowAccounts.{pays_then, pays_nodes, pays_nothing, pays_more, pays_leaves, row_paid, row_more, pair_put, ArePairLevels-Extends, key_below, two_held}
 use Rattle.aq_gate_ops.proofs.ExchangeLemmas.{rows_exchanged}
+use Rattle.aq_gate_ops.proofs.ZeroLemmas.{rows_zero}
 use Rattle.aq_gate_ops.proofs.StoppedLemmas.{stopped_within, stopped_memory, stopped_put}
 use Rattle.aq_gate_ops.proofs.GateLemmas.{rows_found, leaf_shape, row_leaf, row_pair, row_pair_off, row_none, below_all, IsRowMemo-Extends, IsRowMemo-put}
 use Rattle.aq_gate_ops.proofs.rows.+mix.Goals as goal
 
 pub mix_at-returns-then-only_exchanges-clause-rows : goal.mix_at-returns-then-only_exchanges-clause-rows
 mix_at-returns-then-only_exchanges-clause-rows g t c = rows_exchanged g.L.Label.parts g.L.Label.part_count c.args.gate.now c.args.shape.now c.args.depth c.if-only_exchanges.ensures c.args.store.now c.args.left c.args.right c.requires.left c.requires.right
+
+pub mix_at-returns-then-are_zero-clause-rows : goal.mix_at-returns-then-are_zero-clause-rows
+mix_at-returns-then-are_zero-clause-rows g t c =
+    rows_zero g.L.Label.parts g.L.Label.part_count c.args.gate.now c.args.shape.now c.args.depth c.args.store.now c.args.left c.args.right c.requires.left c.requires.right c.if-are_zero.ensures.left c.if-are_zero.ensures.right
+
+pub mix_at-returns-then-are_zero-clause-steps : goal.mix_at-returns-then-are_zero-clause-steps
+mix_at-returns-then-are_zero-clause-steps g t c =
+    λ levels h. pays_nothing _ _ _ c.args.store.now c.args.steps.now
 
 pub mix_at-returns-in-Some-clause-rows : goal.mix_at-returns-in-Some-clause-rows
 mix_at-returns-in-Some-clause-rows g t c = record {
