@@ -15,7 +15,7 @@ use Rattle.aq_store.proofs.MeansLemmas.{pairs_at-kept}
 use Rattle.aq_store.proofs.OwedLemmas.{IsLevel-Extends}
 use Rattle.aq_store.proofs.RunLemmas.{before, run_choice}
 use Rattle.aq_store.proofs.TableLemmas.{HasShape-Extends}
-use Rattle.aq_gate_ops.specs.Accounts.{row_prices, gate_prices, ones, is_made, Pays, gate_owed, gate_keys, HoldKey, AreGateLevels, HoldGate, HoldSides, HoldGatePair}
+use Rattle.aq_gate_ops.specs.Accounts.{anew, anew_at, row_prices, gate_prices, ones, is_made, Pays, gate_owed, gate_keys, HoldKey, AreGateLevels, HoldGate, HoldSides, HoldGatePair}
 use Rattle.aq_gate_ops.specs.Turns.{only_turns, key_of}
 use Rattle.aq_gate_ops.proofs.RowAccounts.{owed_more, key_paid, ArePairLevels-Extends}
 
@@ -72,7 +72,7 @@ module _ {L : Type 0} where
   -- a place is done
   pub place_paid : (above below : List ℕ) (m n : ℕ) → above ≡ n ∷ below → (memo_start memo_middle memo_last : Memo) (rows_start rows_last : PairMemo)
       → ((q : ℕ) → is_done (memo_at memo_start) q ≡ true → is_done (memo_at memo_middle) q ≡ true) → ((q : ℕ) → is_done (memo_at memo_middle) q ≡ true → is_done (memo_at memo_last) q ≡ true)
-      → (levels : List (List ℕ)) (pairs : List (List (ℕ × ℕ))) (i more : ℕ) (start middle last : List (Node L)) (t u v w : Count) → more ≤ 2 * n → IsIn i (first_of levels) → is_done (memo_at memo_start) i ≡ false → is_done (memo_at memo_last) i ≡ true
+      → (levels : List (List ℕ)) (pairs : List (List (ℕ × ℕ))) (i more : ℕ) (start middle last : List (Node L)) (t u v w : Count) → more ≤ n * anew_at m below → IsIn i (first_of levels) → is_done (memo_at memo_start) i ≡ false → is_done (memo_at memo_last) i ≡ true
       → Pays (gate_owed m below memo_start rows_start (rest_of levels) pairs + more) (gate_owed m below memo_middle rows_last (rest_of levels) pairs)
       (gate_keys m below memo_start rows_start (rest_of levels) pairs) (gate_keys m below memo_middle rows_last (rest_of levels) pairs) start middle t u
       → v.taken ≤ u.taken + n → v.taken + total_cost middle ≡ u.taken + total_cost last → w.taken ≤ v.taken + 1
@@ -81,7 +81,7 @@ module _ {L : Type 0} where
   place_paid above below m n split memo_start memo_middle memo_last rows_start rows_last more next levels pairs i extra start middle last t u v w few at new now h node grown put =
       let a = h.all in
       let b = h.besides in
-      let d = key_paid (suc (3 * n)) (gate_prices m below) (is_done (memo_at memo_start)) (is_done (memo_at memo_middle)) (is_done (memo_at memo_last)) more next levels i
+      let d = key_paid (suc (n + n * anew_at m below)) (gate_prices m below) (is_done (memo_at memo_start)) (is_done (memo_at memo_middle)) (is_done (memo_at memo_last)) more next levels i
       (owed (row_prices (drop m below)) (is_made rows_start) pairs) (owed (row_prices (drop m below)) (is_made rows_last) pairs)
       (owed (ones (row_prices (drop m below))) (is_made rows_start) pairs) (owed (ones (row_prices (drop m below))) (is_made rows_last) pairs)
       start last t w at new now (omega arith) (omega arith) in
@@ -93,35 +93,35 @@ module _ {L : Type 0} where
 
   -- both rows of a pair at the target
   pub target_paid : (k : ℕ) → k ≡ 0 → (below : List ℕ) (memo : Memo) (rows_start rows_last : PairMemo) (levels : List (List ℕ)) (pairs : List (List (ℕ × ℕ))) (start last : List (Node L)) (t u : Count)
-      → Pays (owed (row_prices below) (is_made rows_start) pairs + 2) (owed (row_prices below) (is_made rows_last) pairs) (owed (ones (row_prices below)) (is_made rows_start) pairs)
+      → Pays (owed (row_prices below) (is_made rows_start) pairs + anew below) (owed (row_prices below) (is_made rows_last) pairs) (owed (ones (row_prices below)) (is_made rows_start) pairs)
       (owed (ones (row_prices below)) (is_made rows_last) pairs) start last t u
-      → Pays (gate_owed k below memo rows_start levels pairs + 2) (gate_owed k below memo rows_last levels pairs) (gate_keys k below memo rows_start levels pairs) (gate_keys k below memo rows_last levels pairs) start last t u
+      → Pays (gate_owed k below memo rows_start levels pairs + anew_at k below) (gate_owed k below memo rows_last levels pairs) (gate_keys k below memo rows_start levels pairs) (gate_keys k below memo rows_last levels pairs) start last t u
   unfolding owed
   target_paid k e below memo rows_start rows_last levels pairs start last t u h =
       let a = h.all in
       let b = h.besides in
-      subst (λ j. Pays (gate_owed j below memo rows_start levels pairs + 2) (gate_owed j below memo rows_last levels pairs) (gate_keys j below memo rows_start levels pairs) (gate_keys j below memo rows_last levels pairs) start last t u) (sym e)
+      subst (λ j. Pays (gate_owed j below memo rows_start levels pairs + anew_at j below) (gate_owed j below memo rows_last levels pairs) (gate_keys j below memo rows_start levels pairs) (gate_keys j below memo rows_last levels pairs) start last t u) (sym e)
       (record { all = omega arith; besides = omega arith })
 
   -- one call at the level below
   pub side_paid : (k m : ℕ) → k ≡ m → (below : List ℕ) (memo_start memo_last : Memo) (rows_start rows_last : PairMemo) (levels : List (List ℕ)) (pairs : List (List (ℕ × ℕ))) (start last : List (Node L)) (t u : Count)
       → Pays (gate_owed m below memo_start rows_start levels pairs + 0) (gate_owed m below memo_last rows_last levels pairs) (gate_keys m below memo_start rows_start levels pairs) (gate_keys m below memo_last rows_last levels pairs) start last t u
-      → Pays (gate_owed k below memo_start rows_start levels pairs + 2) (gate_owed k below memo_last rows_last levels pairs) (gate_keys k below memo_start rows_start levels pairs) (gate_keys k below memo_last rows_last levels pairs) start last t u
+      → Pays (gate_owed k below memo_start rows_start levels pairs + anew_at k below) (gate_owed k below memo_last rows_last levels pairs) (gate_keys k below memo_start rows_start levels pairs) (gate_keys k below memo_last rows_last levels pairs) start last t u
   side_paid k m e below memo_start memo_last rows_start rows_last levels pairs start last t u h =
       let a = h.all in
-      subst (λ j. Pays (gate_owed j below memo_start rows_start levels pairs + 2) (gate_owed j below memo_last rows_last levels pairs) (gate_keys j below memo_start rows_start levels pairs) (gate_keys j below memo_last rows_last levels pairs) start last t u) (sym e)
+      subst (λ j. Pays (gate_owed j below memo_start rows_start levels pairs + anew_at j below) (gate_owed j below memo_last rows_last levels pairs) (gate_keys j below memo_start rows_start levels pairs) (gate_keys j below memo_last rows_last levels pairs) start last t u) (sym e)
       (record { all = omega arith; besides = h.besides })
 
 -- what is owed for a place that isn't done, and for a pair at the target
 pub place_more : (above below : List ℕ) (m n : ℕ) → above ≡ n ∷ below → (memo : Memo) (rows : PairMemo) (levels : List (List ℕ)) (pairs : List (List (ℕ × ℕ))) (i : ℕ) → IsIn i (first_of levels)
-    → is_done (memo_at memo) i ≡ false → gate_owed m below memo rows (rest_of levels) pairs + suc (3 * n) ≤ gate_owed (suc m) above memo rows levels pairs
+    → is_done (memo_at memo) i ≡ false → gate_owed m below memo rows (rest_of levels) pairs + suc (n + n * anew_at m below) ≤ gate_owed (suc m) above memo rows levels pairs
 place_more above below m n split memo rows levels pairs i at new =
-    subst (λ s. gate_owed m below memo rows (rest_of levels) pairs + suc (3 * n) ≤ gate_owed (suc m) s memo rows levels pairs) (sym split)
-    (let h = owed_more (suc (3 * n)) (gate_prices m below) (is_done (memo_at memo)) levels i at new in omega arith)
+    subst (λ s. gate_owed m below memo rows (rest_of levels) pairs + suc (n + n * anew_at m below) ≤ gate_owed (suc m) s memo rows levels pairs) (sym split)
+    (let h = owed_more (suc (n + n * anew_at m below)) (gate_prices m below) (is_done (memo_at memo)) levels i at new in omega arith)
 
-pub target_more : (k : ℕ) → k ≡ 0 → (below : List ℕ) (memo : Memo) (rows : PairMemo) (levels : List (List ℕ)) (pairs : List (List (ℕ × ℕ))) → owed (row_prices below) (is_made rows) pairs + 0 ≤ gate_owed k below memo rows levels pairs
+pub target_more : (k : ℕ) → k ≡ 0 → (below : List ℕ) (memo : Memo) (rows : PairMemo) (levels : List (List ℕ)) (pairs : List (List (ℕ × ℕ))) → owed (row_prices below) (is_made rows) pairs + anew below ≤ gate_owed k below memo rows levels pairs + anew_at k below
 unfolding owed
-target_more k e below memo rows levels pairs = subst (λ j. owed (row_prices below) (is_made rows) pairs + 0 ≤ gate_owed j below memo rows levels pairs) (sym e) (omega arith)
+target_more k e below memo rows levels pairs = subst (λ j. owed (row_prices below) (is_made rows) pairs + anew below ≤ gate_owed j below memo rows levels pairs + anew_at j below) (sym e) (omega arith)
 
 pub side_more : (k m : ℕ) → k ≡ m → (below : List ℕ) (memo : Memo) (rows : PairMemo) (levels : List (List ℕ)) (pairs : List (List (ℕ × ℕ))) → gate_owed m below memo rows levels pairs ≤ gate_owed k below memo rows levels pairs
 side_more k m e below memo rows levels pairs = subst (λ j. gate_owed m below memo rows levels pairs ≤ gate_owed j below memo rows levels pairs) (sym e) (omega arith)

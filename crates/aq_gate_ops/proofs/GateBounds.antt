@@ -1,5 +1,5 @@
 -- What is owed for all levels of a tree, with no key counted as another.
-use Rattle.std.proofs.Common.{◌≡◌, ℕ, zero, suc, ◌+◌, ◌-◌, ◌*◌, ◌^◌, ◌<◌, ◌≤◌, ◌⊎◌, inl, inr, Bool, false, List, [], ◌∷◌, ◌++◌, length, map, drop, get_or, slice_get}
+use Rattle.std.proofs.Common.{◌≡◌, ℕ, zero, suc, ◌+◌, ◌-◌, ◌*◌, ◌^◌, ◌<◌, ◌≤◌, ◌⊎◌, inl, inr, Bool, true, false, cond, List, [], ◌∷◌, ◌++◌, length, map, drop, get_or, slice_get}
 use Rattle.std.proofs.Common.{Some, option_map, refl, sym, ap, ap₂, subst, ◌∙◌, arith, lit≤, true≢false}
 use native.Mathlib.Numerals.{unary_clauses}
 use Rattle.std.specs.List.{fold}
@@ -16,7 +16,7 @@ use Rattle.aq_store.proofs.MeansLemmas.{opened}
 use Rattle.aq_store.proofs.OwedLemmas.{missing-none, owed-less}
 use Rattle.aq_store.proofs.TableLemmas.{slice_get-some}
 use Rattle.aq_prog.specs.declared.gate.Gate.{Gate}
-use Rattle.aq_gate_ops.specs.Accounts.{row_prices, gate_prices, ArePairLevels, AreGateLevels, HoldGate}
+use Rattle.aq_gate_ops.specs.Accounts.{is_low, rows_cost, anew, row_prices, gate_prices, ArePairLevels, AreGateLevels, HoldGate}
 use Rattle.aq_gate_ops.specs.Turns.{only_turns, key_of}
 use Rattle.aq_gate_ops.proofs.TurnLemmas.{key_sides}
 
@@ -123,13 +123,19 @@ met_is P ps qs m n r h = by ps qs m n h.place h.at
 
 -- ---- budgets
 unfoldable pub row_budget : List ℕ → ℕ
-row_budget [] = 0
-row_budget (n ∷ shape) = 6 * n + 1 + n * (2 * row_budget shape)
+row_budget [] = 2
+row_budget (n ∷ shape) = 2 * n + 1 + n * (2 * row_budget shape)
 
 unfoldable pub gate_budget : ℕ → List ℕ → ℕ
 gate_budget m [] = 0
-gate_budget zero (n ∷ shape) = 3 * n + 1 + n * row_budget shape
-gate_budget (suc m) (n ∷ shape) = 3 * n + 1 + n * (2 * gate_budget m shape)
+gate_budget zero (n ∷ shape) = n + 1 + n * row_budget shape
+gate_budget (suc m) (n ∷ shape) = n + 1 + n * (2 * gate_budget m shape)
+
+-- a budget covers what a pair takes anew
+cost_most : (shape : List ℕ) → rows_cost shape ≤ row_budget shape
+unfolding row_budget
+cost_most [] = lit≤ tt
+cost_most (n ∷ shape) = omega (arith, mul-le-mul_left n (cost_most shape))
 
 unfoldable pub many : List ℕ → ℕ
 many [] = 1
@@ -158,16 +164,16 @@ many_some (n ∷ shape) some = omega (arith, some 0 (omega arith), mul-le-mul_le
 power : (m : ℕ) → 2 ^ suc m ≡ 2 * 2 ^ m
 power m = simp unary_clauses (omega arith)
 
-row_step : (n w p b : ℕ) → 1 ≤ n → 1 ≤ w → b + 7 * w ≤ 7 * (w * p) → 6 * n + 1 + n * (2 * b) + 7 * (n * w) ≤ 7 * (n * w * (2 * p))
+row_step : (n w p b : ℕ) → 1 ≤ n → 1 ≤ w → b + 6 * w ≤ 8 * (w * p) → 2 * n + 1 + n * (2 * b) + 6 * (n * w) ≤ 8 * (n * w * (2 * p))
 row_step n w p b some_n some_w h = omega (arith, mul-le-mul_left n h, mul-le-mul_left n some_w)
 
-target_step : (n w p b : ℕ) → 1 ≤ n → 1 ≤ w → b + 7 * w ≤ 7 * (w * p) → 3 * n + 1 + n * b + 4 * (n * w) ≤ 4 * (n * w * (2 * p))
+target_step : (n w p b : ℕ) → 1 ≤ n → 1 ≤ w → b + 6 * w ≤ 8 * (w * p) → n + 1 + n * b + 4 * (n * w) ≤ 4 * (n * w * (2 * p))
 target_step n w p b some_n some_w h = omega (arith, mul-le-mul_left n h, mul-le-mul_left n some_w)
 
-above_step : (n w p b : ℕ) → 1 ≤ n → 1 ≤ w → b + 4 * w ≤ 4 * (w * p) → 3 * n + 1 + n * (2 * b) + 4 * (n * w) ≤ 4 * (n * w * (2 * p))
+above_step : (n w p b : ℕ) → 1 ≤ n → 1 ≤ w → b + 4 * w ≤ 4 * (w * p) → n + 1 + n * (2 * b) + 4 * (n * w) ≤ 4 * (n * w * (2 * p))
 above_step n w p b some_n some_w h = omega (arith, mul-le-mul_left n h, mul-le-mul_left n some_w)
 
-row_most : (shape : List ℕ) → IsSome shape → row_budget shape + 7 * many shape ≤ 7 * (many shape * 2 ^ length shape)
+row_most : (shape : List ℕ) → IsSome shape → row_budget shape + 6 * many shape ≤ 8 * (many shape * 2 ^ length shape)
 unfolding row_budget many
 row_most [] some = lit≤ tt
 row_most (n ∷ shape) some =
@@ -190,14 +196,20 @@ gate_steps m shape lt some =
     let one : length shape + 1 ≡ suc (length shape) = omega arith in
     sum_up (words shape) (many shape) (2 ^ length shape) (2 ^ (length shape + 1)) (gate_budget m shape) (words-many shape) (ap (λ k. 2 ^ k) one ∙ power (length shape)) (omega (arith, gate_most m shape lt some))
 
-row_turn : (k n b o : ℕ) → o ≤ 2 * n * k * b → suc (6 * n) * k + o ≤ k * (6 * n + 1 + n * (2 * b))
-row_turn k n b o h = let e : k * (6 * n + 1 + n * (2 * b)) ≡ suc (6 * n) * k + 2 * n * k * b = omega arith in omega arith
+row_turn : (k n a b o : ℕ) → o + 2 * n * k * a ≤ 2 * n * k * b → suc (2 * n + n * (2 * a)) * k + o ≤ k * (2 * n + 1 + n * (2 * b))
+row_turn k n a b o h =
+    let e : k * (2 * n + 1 + n * (2 * b)) ≡ k + 2 * n * k + 2 * n * k * b = omega arith in
+    let f : suc (2 * n + n * (2 * a)) * k ≡ k + 2 * n * k + 2 * n * k * a = omega arith in
+    omega arith
 
-target_turn : (k n b o : ℕ) → o ≤ n * k * b → suc (3 * n) * k + o ≤ k * (3 * n + 1 + n * b)
-target_turn k n b o h = let e : k * (3 * n + 1 + n * b) ≡ suc (3 * n) * k + n * k * b = omega arith in omega arith
+target_turn : (k n a b o : ℕ) → o + n * k * a ≤ n * k * b → suc (n + n * a) * k + o ≤ k * (n + 1 + n * b)
+target_turn k n a b o h =
+    let e : k * (n + 1 + n * b) ≡ k + n * k + n * k * b = omega arith in
+    let f : suc (n + n * a) * k ≡ k + n * k + n * k * a = omega arith in
+    omega arith
 
-above_turn : (k n b o : ℕ) → o ≤ 2 * n * k * b → suc (3 * n) * k + o ≤ k * (3 * n + 1 + n * (2 * b))
-above_turn k n b o h = let e : k * (3 * n + 1 + n * (2 * b)) ≡ suc (3 * n) * k + 2 * n * k * b = omega arith in omega arith
+above_turn : (k n b o : ℕ) → o ≤ 2 * n * k * b → suc n * k + o ≤ k * (n + 1 + n * (2 * b))
+above_turn k n b o h = let e : k * (n + 1 + n * (2 * b)) ≡ suc n * k + 2 * n * k * b = omega arith in omega arith
 
 -- a place of a shape has a choice on each level
 pub positive : {L : Type 0} (table : List (Node L)) (shape : List ℕ) (id : ℕ) → HasShape table shape id → (k : ℕ) → k < length shape → 0 < get_or shape k 0
@@ -249,16 +261,27 @@ module _ {L : Type 0} (gate : Gate) (table : List (Node L)) where
     are_pair_levels shape (flat met_at l) (pairs_below n shape l all),
   )
 
-  row_owed : (none : ℕ × ℕ → Bool) → ((p : ℕ × ℕ) → none p ≡ false) → (shape : List ℕ) (l : List (ℕ × ℕ)) → ArePairs shape l → owed (row_prices shape) none (pair_levels shape l) ≤ length l * row_budget shape
+  -- the pairs of a level with or without entries, before those below
+  row_level : (none : ℕ × ℕ → Bool) → ((p : ℕ × ℕ) → none p ≡ false) → (n : ℕ) (shape : List ℕ) (l below : List (ℕ × ℕ)) (low : Bool) → length below ≡ 2 * n * length l
+      → owed (row_prices shape) none (pair_levels shape below) + length below * anew shape ≤ length below * row_budget shape
+      → owed (cond low [] (suc (2 * n + n * (2 * anew shape)) ∷ row_prices shape)) none (l ∷ pair_levels shape below) + length l * cond low (rows_cost (n ∷ shape)) 0 ≤ length l * row_budget (n ∷ shape)
+  unfolding owed row_budget
+  row_level none new n shape l below true long h = omega (arith, mul-le-mul_left (length l) (cost_most (n ∷ shape)))
+  row_level none new n shape l below false long h =
+      let a = ap (λ k. suc (2 * n + n * (2 * anew shape)) * k) (missing-none none new l) in
+      let d = ap (λ k. k * anew shape) long in
+      let e = ap (λ k. k * row_budget shape) long in
+      let f = row_turn (length l) n (anew shape) (row_budget shape) (owed (row_prices shape) none (pair_levels shape below)) (omega arith) in
+      omega arith
+
+  row_owed : (none : ℕ × ℕ → Bool) → ((p : ℕ × ℕ) → none p ≡ false) → (shape : List ℕ) (l : List (ℕ × ℕ)) → ArePairs shape l
+      → owed (row_prices shape) none (pair_levels shape l) + length l * anew shape ≤ length l * row_budget shape
   unfolding owed row_budget
   row_owed none new [] l all = omega arith
   row_owed none new (n ∷ shape) l all =
-      let a = missing-none none new l in
-      let b = row_owed none new shape (flat met_at l) (pairs_below n shape l all) in
-      let d = ap (λ k. k * row_budget shape) (flat_length met_at (2 * n) l (λ p h. (let s = all p h in met_length n (pairs_at table p.0) (pairs_at table p.1) (opened table n shape p.0 s.0).1 (opened table n shape p.1 s.1).1))) in
-      let e = ap (λ k. suc (6 * n) * k) a in
-      let f = row_turn (length l) n (row_budget shape) (owed (row_prices shape) none (pair_levels shape (flat met_at l))) (omega arith) in
-      omega arith
+      row_level none new n shape l (flat met_at l) (is_low (n ∷ shape))
+      (flat_length met_at (2 * n) l (λ p h. (let s = all p h in met_length n (pairs_at table p.0) (pairs_at table p.1) (opened table n shape p.0 s.0).1 (opened table n shape p.1 s.1).1)))
+      (row_owed none new shape (flat met_at l) (pairs_below n shape l all))
 
   -- ---- from the target up
   abbrev pub gate_levels : ℕ → List ℕ → List ℕ → List (List ℕ)
@@ -327,13 +350,15 @@ module _ {L : Type 0} (gate : Gate) (table : List (Node L)) where
   unfolding owed gate_budget
   gate_bound none new free fresh m [] l lt all = absurd (omega arith)
   gate_bound none new free fresh zero (n ∷ shape) l lt all =
-      let a = ap (λ k. suc (3 * n) * k) (missing-none none new l) in
+      let a = ap (λ k. suc (n + n * anew shape) * k) (missing-none none new l) in
       let b = row_owed free fresh shape (flat keys_at l) (target_below n shape l all) in
-      let d = ap (λ k. k * row_budget shape) (flat_length keys_at n l (λ i h. length-map (pairs_at table i) (key_of (only_turns gate)) ∙ (opened table n shape i (all i h)).1)) in
-      let f = target_turn (length l) n (row_budget shape) (owed (row_prices shape) free (pair_levels shape (flat keys_at l))) (omega arith) in
+      let long = flat_length keys_at n l (λ i h. length-map (pairs_at table i) (key_of (only_turns gate)) ∙ (opened table n shape i (all i h)).1) in
+      let d = ap (λ k. k * anew shape) long in
+      let e = ap (λ k. k * row_budget shape) long in
+      let f = target_turn (length l) n (anew shape) (row_budget shape) (owed (row_prices shape) free (pair_levels shape (flat keys_at l))) (omega arith) in
       omega arith
   gate_bound none new free fresh (suc m) (n ∷ shape) l lt all =
-      let a = ap (λ k. suc (3 * n) * k) (missing-none none new l) in
+      let a = ap (λ k. suc n * k) (missing-none none new l) in
       let b = gate_bound none new free fresh m shape (flat sides_at l) (omega arith) (places_below n shape l all) in
       let d = ap (λ k. k * gate_budget m shape) (flat_length sides_at (2 * n) l (λ i h. (let o = (opened table n shape i (all i h)).1 in length-sides (pairs_at table i) ∙ ap (λ k. 2 * k) o))) in
       let f = above_turn (length l) n (gate_budget m shape)

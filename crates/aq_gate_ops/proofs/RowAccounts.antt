@@ -12,11 +12,52 @@ use Rattle.aq_store.specs.declared.node.Node.{Node}
 use Rattle.aq_store.proofs.MeansLemmas.{pairs_at-kept}
 use Rattle.aq_store.proofs.OwedLemmas.{missing-one, owed-less, owed-failed}
 use Rattle.aq_store.proofs.TableLemmas.{HasShape-Extends}
-use Rattle.aq_gate_ops.specs.Accounts.{row_prices, ones, is_made, Pays, ArePairLevels, HoldKey, HoldTwo, HoldBelow}
+use Rattle.aq_gate_ops.specs.Accounts.{is_low, rows_cost, anew, row_prices, ones, is_made, Pays, ArePairLevels, HoldKey, HoldTwo, HoldBelow}
 
-paid_product : (p m n : ℕ) → m + 1 ≤ n → p * m + p ≤ p * n
+pub paid_product : (p m n : ℕ) → m + 1 ≤ n → p * m + p ≤ p * n
 paid_product p m n h = let a = mul-le-mul_left p h in let b : p * (m + 1) ≡ p * m + p = omega arith in omega arith
 
+-- ---- prices
+both : (a b : Bool) → (a && b) ≡ true → (a ≡ true) × (b ≡ true)
+both true b e = (refl, e)
+both false b e = cc
+
+pub low_below : (n : ℕ) (below : List ℕ) → is_low (n ∷ below) ≡ true → is_low below ≡ true
+low_below n [] e = refl
+low_below n (m ∷ []) e = (both _ _ e).1
+low_below n (m ∷ k ∷ below) e = cc
+
+-- the cost of a pair without an entry
+pub anew_low : (shape : List ℕ) → is_low shape ≡ true → anew shape ≡ rows_cost shape
+anew_low shape low = ap (λ b. cond b (rows_cost shape) 0) low
+
+pub prices_low : (n : ℕ) (shape : List ℕ) → is_low (n ∷ shape) ≡ true → row_prices (n ∷ shape) ≡ []
+prices_low n shape low = ap (λ b. cond b [] (suc (2 * n + n * (2 * anew shape)) ∷ row_prices shape)) low
+
+none_below : (shape : List ℕ) → is_low shape ≡ true → row_prices shape ≡ []
+none_below [] low = refl
+none_below (n ∷ shape) low = prices_low n shape low
+
+record ArePricesLow (above below : List ℕ) (n : ℕ) : Type 0 where
+  here : row_prices above ≡ []
+  under : row_prices below ≡ []
+  cost : anew above ≡ 2 * n + n * (2 * anew below)
+
+low_prices : (above below : List ℕ) (n : ℕ) → above ≡ n ∷ below → is_low above ≡ true → ArePricesLow above below n
+low_prices above below n split low =
+    let first : is_low (n ∷ below) ≡ true = sym (ap is_low split) ∙ low in
+    let rest = low_below n below first in
+    record {
+      here = ap row_prices split ∙ prices_low n below first;
+      under = none_below below rest;
+      cost = ap anew split ∙ anew_low (n ∷ below) first ∙ ap (λ c. 2 * n + n * (2 * c)) (sym (anew_low below rest));
+    }
+
+high_prices : (above below : List ℕ) (n : ℕ) → above ≡ n ∷ below → is_low above ≡ false → row_prices above ≡ suc (2 * n + n * (2 * anew below)) ∷ row_prices below
+high_prices above below n split high =
+    ap row_prices split ∙ ap (λ b. cond b [] (suc (2 * n + n * (2 * anew below)) ∷ row_prices below)) (sym (ap is_low split) ∙ high)
+
+-- ---- what is paid
 module _ {K : Type 0} where
   -- a key is done, after keys of lower levels
   pub owed_key : (p : ℕ) (prices : List ℕ) (before middle after : K → Bool) → ((k : K) → before k ≡ true → middle k ≡ true) → ((k : K) → middle k ≡ true → after k ≡ true)
@@ -79,31 +120,59 @@ module _ {L : Type 0} where
   pub pays_nothing : (a e k : ℕ) (table : List (Node L)) (t : Count) → Pays (a + e) a k k table table t t
   pays_nothing a e k table t = record { all = omega arith; besides = omega arith }
 
-  -- two leaves, of which there is no key
-  pub pays_leaves : (a k : ℕ) (start last : List (Node L)) (t u : Count) → u.taken ≤ t.taken + 2 → u.taken + total_cost start ≤ t.taken + total_cost last → Pays (a + 2) a k k start last t u
-  pays_leaves a k start last t u two few = record { all = omega arith; besides = omega arith }
-
-  -- both rows of a key are done
-  pub row_paid : (above below : List ℕ) (n : ℕ) → above ≡ n ∷ below → (before middle after : ℕ × ℕ → Bool) → ((k : ℕ × ℕ) → before k ≡ true → middle k ≡ true) → ((k : ℕ × ℕ) → middle k ≡ true → after k ≡ true)
+  -- both rows of a pair that has an entry are done
+  pub row_paid : (above below : List ℕ) (n : ℕ) → above ≡ n ∷ below → is_low above ≡ false → (before middle after : ℕ × ℕ → Bool) → ((k : ℕ × ℕ) → before k ≡ true → middle k ≡ true) → ((k : ℕ × ℕ) → middle k ≡ true → after k ≡ true)
       → (levels : List (List (ℕ × ℕ))) (k : ℕ × ℕ) (start last : List (Node L)) (t u v : Count) → IsIn k (first_of levels) → before k ≡ false → after k ≡ true → v.taken ≤ u.taken + 1
-      → Pays (owed (row_prices below) before (rest_of levels) + 6 * n) (owed (row_prices below) middle (rest_of levels))
+      → Pays (owed (row_prices below) before (rest_of levels) + (2 * n + n * (2 * anew below))) (owed (row_prices below) middle (rest_of levels))
       (owed (ones (row_prices below)) before (rest_of levels)) (owed (ones (row_prices below)) middle (rest_of levels)) start last t u
-      → Pays (owed (row_prices above) before levels + 2) (owed (row_prices above) after levels) (owed (ones (row_prices above)) before levels) (owed (ones (row_prices above)) after levels) start last t v
-  row_paid above below n split before middle after more next levels k start last t u v at new now le h =
+      → Pays (owed (row_prices above) before levels + anew above) (owed (row_prices above) after levels) (owed (ones (row_prices above)) before levels) (owed (ones (row_prices above)) after levels) start last t v
+  row_paid above below n split high before middle after more next levels k start last t u v at new now le h =
       let a = h.all in
       let b = h.besides in
-      let d = key_paid (suc (6 * n)) (row_prices below) before middle after more next levels k 0 0 0 0 start last t v at new now (omega arith) (omega arith) in
+      let d = key_paid (suc (2 * n + n * (2 * anew below))) (row_prices below) before middle after more next levels k 0 0 0 0 start last t v at new now (omega arith) (omega arith) in
       let e = d.all in
       let f = d.besides in
-      subst (λ s. Pays (owed (row_prices s) before levels + 2) (owed (row_prices s) after levels) (owed (ones (row_prices s)) before levels) (owed (ones (row_prices s)) after levels) start last t v) (sym split)
+      subst (λ ps. Pays (owed ps before levels + anew above) (owed ps after levels) (owed (ones ps) before levels) (owed (ones ps) after levels) start last t v) (sym (high_prices above below n split high))
       (record { all = omega arith; besides = omega arith })
 
--- what is owed for a key that isn't done
-pub row_more : (above below : List ℕ) (n : ℕ) → above ≡ n ∷ below → (before : ℕ × ℕ → Bool) (levels : List (List (ℕ × ℕ))) (k : ℕ × ℕ) → IsIn k (first_of levels) → before k ≡ false
-    → owed (row_prices below) before (rest_of levels) + suc (6 * n) ≤ owed (row_prices above) before levels
-row_more above below n split before levels k at new =
-    subst (λ s. owed (row_prices below) before (rest_of levels) + suc (6 * n) ≤ owed (row_prices s) before levels) (sym split)
-    (owed_more (suc (6 * n)) (row_prices below) before levels k at new)
+  -- both rows of a pair that has none are worked out
+  pub low_paid : (above below : List ℕ) (n : ℕ) → above ≡ n ∷ below → is_low above ≡ true → (before after : ℕ × ℕ → Bool) (levels : List (List (ℕ × ℕ))) (start last : List (Node L)) (t u : Count)
+      → Pays (owed (row_prices below) before (rest_of levels) + (2 * n + n * (2 * anew below))) (owed (row_prices below) after (rest_of levels))
+      (owed (ones (row_prices below)) before (rest_of levels)) (owed (ones (row_prices below)) after (rest_of levels)) start last t u
+      → Pays (owed (row_prices above) before levels + anew above) (owed (row_prices above) after levels) (owed (ones (row_prices above)) before levels) (owed (ones (row_prices above)) after levels) start last t u
+  unfolding owed
+  low_paid above below n split low before after levels start last t u h =
+      let p = low_prices above below n split low in
+      let g = subst (λ ps. Pays (owed ps before (rest_of levels) + (2 * n + n * (2 * anew below))) (owed ps after (rest_of levels)) (owed (ones ps) before (rest_of levels)) (owed (ones ps) after (rest_of levels)) start last t u) p.under h in
+      let a = g.all in
+      let b = g.besides in
+      let e = p.cost in
+      subst (λ ps. Pays (owed ps before levels + anew above) (owed ps after levels) (owed (ones ps) before levels) (owed (ones ps) after levels) start last t u) (sym p.here)
+      (record { all = omega arith; besides = omega arith })
+
+  -- two leaves
+  pub leaves_paid : (shape : List ℕ) → shape ≡ [] → (done : ℕ × ℕ → Bool) (levels : List (List (ℕ × ℕ))) (start last : List (Node L)) (t u : Count) → u.taken ≤ t.taken + 2 → u.taken + total_cost start ≤ t.taken + total_cost last
+      → Pays (owed (row_prices shape) done levels + anew shape) (owed (row_prices shape) done levels) (owed (ones (row_prices shape)) done levels) (owed (ones (row_prices shape)) done levels) start last t u
+  leaves_paid shape none done levels start last t u two few =
+      let e : anew shape ≡ 2 = ap anew none in
+      record { all = omega arith; besides = omega arith }
+
+-- what is owed for a pair that has an entry and isn't done
+pub row_more : (above below : List ℕ) (n : ℕ) → above ≡ n ∷ below → is_low above ≡ false → (before : ℕ × ℕ → Bool) (levels : List (List (ℕ × ℕ))) (k : ℕ × ℕ) → IsIn k (first_of levels) → before k ≡ false
+    → owed (row_prices below) before (rest_of levels) + suc (2 * n + n * (2 * anew below)) ≤ owed (row_prices above) before levels
+row_more above below n split high before levels k at new =
+    subst (λ ps. owed (row_prices below) before (rest_of levels) + suc (2 * n + n * (2 * anew below)) ≤ owed ps before levels) (sym (high_prices above below n split high))
+    (owed_more (suc (2 * n + n * (2 * anew below))) (row_prices below) before levels k at new)
+
+-- and for one that has none
+pub low_more : (above below : List ℕ) (n : ℕ) → above ≡ n ∷ below → is_low above ≡ true → (before : ℕ × ℕ → Bool) (levels : List (List (ℕ × ℕ)))
+    → owed (row_prices below) before (rest_of levels) + (2 * n + n * (2 * anew below)) ≤ owed (row_prices above) before levels + anew above
+unfolding owed
+low_more above below n split low before levels =
+    let p = low_prices above below n split low in
+    let e = p.cost in
+    let none : owed (row_prices below) before (rest_of levels) ≡ 0 = ap (λ ps. owed ps before (rest_of levels)) p.under in
+    omega arith
 
 -- a pair that was just put is done
 pub pair_put : (old new : PairMemo) (key made : ℕ × ℕ) → PutsPair old new key made → is_made new key ≡ true

@@ -1,7 +1,7 @@
 -- What a gate takes, told by levels: lists of places from the root down to the target, and below it lists of ordered pairs
 -- of places, that hold all that the call may meet. They may hold more, and hold a key twice, so that each bound on the
 -- whole gate chooses its own.
-use Rattle.std.specs.Prelude.{◌≡◌, ℕ, zero, suc, ◌+◌, ◌*◌, ◌<◌, ◌≤◌, Bool, List, [], ◌∷◌, slice_get, drop, Some, is_some}
+use Rattle.std.specs.Prelude.{◌≡◌, ℕ, zero, suc, ◌+◌, ◌*◌, ◌<◌, ◌≤◌, ◌==◌, Bool, true, false, ◌&&◌, if◌then◌else◌, List, [], ◌∷◌, slice_get, drop, Some, is_some}
 use Rattle.aq_store.specs.Count.{Count}
 use Rattle.aq_store.specs.Memos.{memo_at, is_done, pair_memo_at}
 use Rattle.aq_store.specs.Nodes.{HasShape, pairs_at, total_cost}
@@ -15,18 +15,39 @@ use Rattle.aq_prog.specs.declared.gate.Gate.{Gate}
 use Rattle.aq_gate_ops.specs.Turns.{only_turns, key_of}
 
 -- ---- prices
--- Of an ordered pair of places, by the shape below: both rows' nodes, what may be leaves under each choice, and an
--- entry of the memo. Leaves have no entry: two leaves take at most two steps each time that they are met, which are in
--- the price of what stands above.
+-- where at most two levels are left, of one choice each, an ordered pair of places has no entry in the memo: it is
+-- worked out anew each time that it is met
+abbrev pub is_low : List ℕ → Bool
+is_low [] = true
+is_low (n ∷ []) = n == 1
+is_low (n ∷ m ∷ []) = (n == 1) && (m == 1)
+is_low (n ∷ m ∷ k ∷ shape) = false
+
+-- what the nodes of both rows of a pair cost, with those of all pairs below it, one for each choice and side
+abbrev pub rows_cost : List ℕ → ℕ
+rows_cost [] = 2
+rows_cost (n ∷ shape) = 2 * n + n * (2 * rows_cost shape)
+
+-- what a pair takes each time that it is met, by the shape below: these nodes where it has no entry, else nothing, since
+-- its price has all
+abbrev pub anew : List ℕ → ℕ
+anew shape = if is_low shape then rows_cost shape else 0
+
+-- of a pair that has an entry: both rows' nodes, what the pairs of each choice take anew, and the entry
 abbrev pub row_prices : List ℕ → List ℕ
 row_prices [] = []
-row_prices (n ∷ shape) = suc (6 * n) ∷ row_prices shape
+row_prices (n ∷ shape) = if is_low (n ∷ shape) then [] else (suc (2 * n + n * (2 * anew shape)) ∷ row_prices shape)
 
--- of a place, for so many levels: its node, what may be leaves under each choice, and an entry of the memo
+-- what a place's pair takes anew, with so many levels between: at the target that of its two sides, above it nothing
+abbrev pub anew_at : ℕ → List ℕ → ℕ
+anew_at zero shape = anew shape
+anew_at (suc m) shape = 0
+
+-- of a place, for so many levels: its node, what the pair of each choice takes anew, and an entry of the memo
 abbrev pub gate_prices : ℕ → List ℕ → List ℕ
 gate_prices zero shape = []
 gate_prices (suc k) [] = []
-gate_prices (suc k) (n ∷ shape) = suc (3 * n) ∷ gate_prices k shape
+gate_prices (suc k) (n ∷ shape) = suc (n + n * anew_at k shape) ∷ gate_prices k shape
 
 -- one step for each key
 abbrev pub ones : List ℕ → List ℕ

@@ -6,7 +6,7 @@ ghost use Rattle.aq_store.specs.Means.{Means, MeansPair, of_place, of_pair};
 ghost use Rattle.aq_store.specs.Memos.{memo_at, is_done, pair_memo_at, StayDone};
 ghost use Rattle.aq_store.specs.Nodes.{Extends, FitsStore, HasShape, total_cost};
 ghost use Rattle.aq_store.specs.Words.{words};
-ghost use Rattle.aq_gate_ops.specs.Accounts.{HoldGate, HoldGatePair, IsStopped, PaysGate, StopsGate};
+ghost use Rattle.aq_gate_ops.specs.Accounts.{HoldGate, HoldGatePair, IsStopped, PaysGate, StopsGate, anew_at};
 ghost use Rattle.aq_gate_ops.specs.Action.{IsActed, IsActing, IsActMemo, IsApplied, IsFresh, IsRowMemo};
 ghost use Rattle.aq_gate_ops.specs.Causes.{IsCause, PlaceCause, PairCause, IsGateCause};
 ghost use Rattle.aq_gate_ops.specs.Counts.{node_count, pair_count};
@@ -136,12 +136,12 @@ fn act_pair<L: Label>(
     ensures steps { let below = drop (depth + 1) shape.now in
         let above = gate.now.target - depth in
         let holds = HoldGatePair store.old gate.now above below pair in
-        let pays = PaysGate holds above below 2 memo.old rows.old memo.new rows.new in
+        let pays = PaysGate holds above below (anew_at above below) memo.old rows.old memo.new rows.new in
         OnOk result (pays store.old store.new steps.old steps.new) }
     ensures refused { let below = drop (depth + 1) shape.now in
         let above = gate.now.target - depth in
         let holds = HoldGatePair store.old gate.now above below pair in
-        IfErr result (StopsGate holds above below 2 memo.old rows.old steps.old steps.new) }
+        IfErr result (StopsGate holds above below (anew_at above below) memo.old rows.old steps.old steps.new) }
     ensures cause { IfErr result (IsCause (PairCause L.parts L.part_count gate.now shape.now depth store.old pair)) }
 {
     if depth == gate.target {

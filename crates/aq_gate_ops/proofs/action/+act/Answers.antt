@@ -13,10 +13,10 @@ use Rattle.std.proofs.Common.{is_some}
 use Rattle.aq_store.specs.Owed.{owed, rest_of}
 use Rattle.aq_store.proofs.StopLemmas.{passed_on, adds_limit}
 use Rattle.aq_gate_ops.specs.Action.{IsActed}
-use Rattle.aq_gate_ops.specs.Accounts.{is_made, row_prices, gate_owed}
+use Rattle.aq_gate_ops.specs.Accounts.{anew, anew_at, is_made, row_prices, gate_owed}
 use Rattle.aq_gate_ops.proofs.CauseLemmas.{cause_map, alone_cause, act_cause_kept, act_cause_choice, act_cause_target, act_cause_low, act_cause_high}
 use Rattle.aq_gate_ops.proofs.GateAccounts.{AreGateLevels-Extends, gate_pair, key_held, both_held, place_paid, target_paid, side_paid, place_more, target_more, side_more, place_put}
-use Rattle.aq_gate_ops.proofs.RowAccounts.{pays_then, pays_nothing}
+use Rattle.aq_gate_ops.proofs.RowAccounts.{paid_product, pays_then, pays_nothing}
 use Rattle.aq_gate_ops.proofs.ZeroLemmas.{place_zero}
 use Rattle.aq_gate_ops.proofs.StoppedLemmas.{stopped_within, stopped_memory, stopped_put, stopped_add, added_besides}
 use Rattle.aq_gate_ops.proofs.GateLemmas.{act_found, act_target, act_both, act_off, acted_none, IsActMemo-Extends, IsActMemo-put, IsRowMemo-Extends}
@@ -86,7 +86,7 @@ act_at-loop-index-preserved g t c =
       limit = c.act_pair.ensures.limit ∙ c.loop-index.invariant.limit;
       done = λ q h. c.act_pair.ensures.done q (c.loop-index.invariant.done q h);
       rows_done = λ q h. c.act_pair.ensures.rows_done q (c.loop-index.invariant.rows_done q h);
-      cost = λ levels pairs h. pays_then _ _ _ _ _ _ (2 * length c.loop-index.pairs) 2 _ c.args.store.now c.loop-index.store c.act_pair.new.store c.args.steps.now c.loop-index.steps c.act_pair.new.steps (omega (arith, long, c.run-pair.ensures.some)) (c.loop-index.invariant.cost levels pairs h)
+      cost = λ levels pairs h. pays_then _ _ _ _ _ _ (anew_at (c.args.gate.now.target - c.args.depth) (drop (c.args.depth + 1) c.args.shape.now) * length c.loop-index.pairs) (anew_at (c.args.gate.now.target - c.args.depth) (drop (c.args.depth + 1) c.args.shape.now)) _ c.args.store.now c.loop-index.store c.act_pair.new.store c.args.steps.now c.loop-index.steps c.act_pair.new.steps (paid_product (anew_at (c.args.gate.now.target - c.args.depth) (drop (c.args.depth + 1) c.args.shape.now)) (length c.loop-index.pairs) (length c.push.new.self) (omega (arith, long, c.run-pair.ensures.some))) (c.loop-index.invariant.cost levels pairs h)
           (c.in_ok-made.ensures.steps (rest_of levels) pairs (gate_pair c.args.gate.now c.args.store.now c.loop-index.store c.loop-index.invariant.keeps (drop c.args.depth c.args.shape.now) (drop (c.args.depth + 1) c.args.shape.now) (c.args.gate.now.target - c.args.depth) (get_or c.args.shape.now c.args.depth 0) split c.args.id c.loop-index.index c.run-pair.result.1 c.run-pair.result.0 levels pairs c.requires.shape h c.run-pair.ensures.run c.run-pair.ensures.some));
       memo = c.in_ok-made.ensures.memo;
       rows = c.in_ok-made.ensures.rows;
@@ -163,7 +163,7 @@ act_at-returns-in_err-made-clause-refused g t c =
     (λ levels pairs h.
     let most = place_more (drop c.args.depth c.args.shape.now) (drop (c.args.depth + 1) c.args.shape.now) (c.args.gate.now.target - c.args.depth) (get_or c.args.shape.now c.args.depth 0) split c.args.memo.now c.args.rows.now levels pairs c.args.id h.here (ap is_some (sym c.in_default.ensures)) in
     let cost = (c.loop-index.invariant.cost levels pairs h).all in
-    stopped_within c.args.steps.now c.loop-index.steps c.act_pair.new.steps (gate_owed (c.args.gate.now.target - c.args.depth) (drop (c.args.depth + 1) c.args.shape.now) c.loop-index.memo c.loop-index.rows (rest_of levels) pairs + 2) (gate_owed (suc (c.args.gate.now.target - c.args.depth)) (drop c.args.depth c.args.shape.now) c.args.memo.now c.args.rows.now levels pairs + 0) _ c.loop-index.invariant.limit (omega (arith, few))
+    stopped_within c.args.steps.now c.loop-index.steps c.act_pair.new.steps (gate_owed (c.args.gate.now.target - c.args.depth) (drop (c.args.depth + 1) c.args.shape.now) c.loop-index.memo c.loop-index.rows (rest_of levels) pairs + anew_at (c.args.gate.now.target - c.args.depth) (drop (c.args.depth + 1) c.args.shape.now)) (gate_owed (suc (c.args.gate.now.target - c.args.depth)) (drop c.args.depth c.args.shape.now) c.args.memo.now c.args.rows.now levels pairs + 0) _ c.loop-index.invariant.limit (omega (arith, paid_product (anew_at (c.args.gate.now.target - c.args.depth) (drop (c.args.depth + 1) c.args.shape.now)) (length c.loop-index.pairs) (get_or c.args.shape.now c.args.depth 0) few))
     (c.in_err-made.ensures.refused (rest_of levels) pairs (gate_pair c.args.gate.now c.args.store.now c.loop-index.store c.loop-index.invariant.keeps (drop c.args.depth c.args.shape.now) (drop (c.args.depth + 1) c.args.shape.now) (c.args.gate.now.target - c.args.depth) (get_or c.args.shape.now c.args.depth 0) split c.args.id c.loop-index.index c.run-pair.result.1 c.run-pair.result.0 levels pairs c.requires.shape h c.run-pair.ensures.run c.run-pair.ensures.some)))
 
 pub act_at-returns-in_err-made-clause-cause : goal.act_at-returns-in_err-made-clause-cause
@@ -185,7 +185,7 @@ act_at-returns-in_default-push-clause-refused g t c =
     let most = place_more (drop c.args.depth c.args.shape.now) (drop (c.args.depth + 1) c.args.shape.now) (c.args.gate.now.target - c.args.depth) (get_or c.args.shape.now c.args.depth 0) split c.args.memo.now c.args.rows.now levels pairs c.args.id h.here (ap is_some (sym c.in_default.ensures)) in
     let cost = (c.loop-index.invariant.cost levels pairs h).all in
     let inner = (c.in_ok-made.ensures.steps (rest_of levels) pairs (gate_pair c.args.gate.now c.args.store.now c.loop-index.store c.loop-index.invariant.keeps (drop c.args.depth c.args.shape.now) (drop (c.args.depth + 1) c.args.shape.now) (c.args.gate.now.target - c.args.depth) (get_or c.args.shape.now c.args.depth 0) split c.args.id c.loop-index.index c.run-pair.result.1 c.run-pair.result.0 levels pairs c.requires.shape h c.run-pair.ensures.run c.run-pair.ensures.some)).all in
-    stopped_memory c.args.steps.now c.act_pair.new.steps (gate_owed (suc (c.args.gate.now.target - c.args.depth)) (drop c.args.depth c.args.shape.now) c.args.memo.now c.args.rows.now levels pairs + 0) _ (omega (arith, few)) refl
+    stopped_memory c.args.steps.now c.act_pair.new.steps (gate_owed (suc (c.args.gate.now.target - c.args.depth)) (drop c.args.depth c.args.shape.now) c.args.memo.now c.args.rows.now levels pairs + 0) _ (omega (arith, paid_product (anew_at (c.args.gate.now.target - c.args.depth) (drop (c.args.depth + 1) c.args.shape.now)) (length c.loop-index.pairs) (get_or c.args.shape.now c.args.depth 0) few)) refl
 
 pub act_at-returns-in_err-made-2-clause-refused : goal.act_at-returns-in_err-made-2-clause-refused
 act_at-returns-in_err-made-2-clause-refused g t c =
@@ -194,11 +194,12 @@ act_at-returns-in_err-made-2-clause-refused g t c =
     let o = opened c.args.store.now (get_or c.args.shape.now c.args.depth 0) (drop (c.args.depth + 1) c.args.shape.now) c.args.id (subst (λ u. HasShape c.args.store.now u c.args.id) split c.requires.shape) in
     let e = before-end (pairs_at c.args.store.now c.args.id) c.loop-index.index (omega (arith, c.loop-index-test.false)) in
     let long : length c.loop-index.pairs ≡ (get_or c.args.shape.now c.args.depth 0) = c.loop-index.invariant.count ∙ e ∙ o.1 in
+    let filled = ap (λ k. anew_at (c.args.gate.now.target - c.args.depth) (drop (c.args.depth + 1) c.args.shape.now) * k) long in
     passed_on _ c.from_residual-in_err-made-2.result c.in_err-made-2.field-0.0 c.from_residual-in_err-made-2.ensures
     (λ levels pairs h.
     let most = place_more (drop c.args.depth c.args.shape.now) (drop (c.args.depth + 1) c.args.shape.now) (c.args.gate.now.target - c.args.depth) (get_or c.args.shape.now c.args.depth 0) split c.args.memo.now c.args.rows.now levels pairs c.args.id h.here (ap is_some (sym c.in_default.ensures)) in
     let cost = (c.loop-index.invariant.cost levels pairs h).all in
-    stopped_within c.args.steps.now c.loop-index.steps c.node_of.new.steps (length c.loop-index.pairs) (gate_owed (suc (c.args.gate.now.target - c.args.depth)) (drop c.args.depth c.args.shape.now) c.args.memo.now c.args.rows.now levels pairs + 0) _ c.loop-index.invariant.limit (omega arith)
+    stopped_within c.args.steps.now c.loop-index.steps c.node_of.new.steps (length c.loop-index.pairs) (gate_owed (suc (c.args.gate.now.target - c.args.depth)) (drop c.args.depth c.args.shape.now) c.args.memo.now c.args.rows.now levels pairs + 0) _ c.loop-index.invariant.limit (omega (arith, filled))
     (stopped_add _ _ _ _ _ _ c.in_err-made-2.ensures.adds))
 
 pub act_at-returns-in_err-made-2-clause-cause : goal.act_at-returns-in_err-made-2-clause-cause
@@ -213,11 +214,12 @@ act_at-returns-in_err-put-clause-refused g t c =
     let o = opened c.args.store.now (get_or c.args.shape.now c.args.depth 0) (drop (c.args.depth + 1) c.args.shape.now) c.args.id (subst (λ u. HasShape c.args.store.now u c.args.id) split c.requires.shape) in
     let e = before-end (pairs_at c.args.store.now c.args.id) c.loop-index.index (omega (arith, c.loop-index-test.false)) in
     let long : length c.loop-index.pairs ≡ (get_or c.args.shape.now c.args.depth 0) = c.loop-index.invariant.count ∙ e ∙ o.1 in
+    let filled = ap (λ k. anew_at (c.args.gate.now.target - c.args.depth) (drop (c.args.depth + 1) c.args.shape.now) * k) long in
     passed_on _ c.from_residual-in_err-put.result c.in_err-put.field-0.0 c.from_residual-in_err-put.ensures
     (λ levels pairs h.
     let most = place_more (drop c.args.depth c.args.shape.now) (drop (c.args.depth + 1) c.args.shape.now) (c.args.gate.now.target - c.args.depth) (get_or c.args.shape.now c.args.depth 0) split c.args.memo.now c.args.rows.now levels pairs c.args.id h.here (ap is_some (sym c.in_default.ensures)) in
     let cost = (c.loop-index.invariant.cost levels pairs h).all in
-    stopped_within c.args.steps.now c.node_of.new.steps c.put.new.steps 1 (gate_owed (suc (c.args.gate.now.target - c.args.depth)) (drop c.args.depth c.args.shape.now) c.args.memo.now c.args.rows.now levels pairs + 0) _ (adds_limit _ _ _ _ _ _ c.node_of.ensures.adds ∙ c.loop-index.invariant.limit) (omega (arith, c.node_of.ensures.cheap))
+    stopped_within c.args.steps.now c.node_of.new.steps c.put.new.steps 1 (gate_owed (suc (c.args.gate.now.target - c.args.depth)) (drop c.args.depth c.args.shape.now) c.args.memo.now c.args.rows.now levels pairs + 0) _ (adds_limit _ _ _ _ _ _ c.node_of.ensures.adds ∙ c.loop-index.invariant.limit) (omega (arith, filled, c.node_of.ensures.cheap))
     (stopped_put _ _ 1 _ c.put.ensures.cheap c.in_err-put.ensures.refused))
 
 pub act_at-returns-in_err-put-clause-cause : goal.act_at-returns-in_err-put-clause-cause
@@ -232,8 +234,9 @@ act_at-returns-clause-steps g t c =
     let o = opened c.args.store.now (get_or c.args.shape.now c.args.depth 0) (drop (c.args.depth + 1) c.args.shape.now) c.args.id (subst (λ u. HasShape c.args.store.now u c.args.id) split c.requires.shape) in
     let e = before-end (pairs_at c.args.store.now c.args.id) c.loop-index.index (omega (arith, c.loop-index-test.false)) in
     let long : length c.loop-index.pairs ≡ (get_or c.args.shape.now c.args.depth 0) = c.loop-index.invariant.count ∙ e ∙ o.1 in
-    λ levels pairs h. place_paid (drop c.args.depth c.args.shape.now) (drop (c.args.depth + 1) c.args.shape.now) (c.args.gate.now.target - c.args.depth) (get_or c.args.shape.now c.args.depth 0) split c.args.memo.now c.loop-index.memo c.put.new.self c.args.rows.now c.loop-index.rows c.loop-index.invariant.done c.put.ensures.done levels pairs c.args.id (2 * length c.loop-index.pairs)
-    c.args.store.now c.loop-index.store c.node_of.new.self c.args.steps.now c.loop-index.steps c.node_of.new.steps c.put.new.steps (omega (arith, long)) h.here (ap is_some (sym c.in_default.ensures))
+    let filled = ap (λ k. anew_at (c.args.gate.now.target - c.args.depth) (drop (c.args.depth + 1) c.args.shape.now) * k) long in
+    λ levels pairs h. place_paid (drop c.args.depth c.args.shape.now) (drop (c.args.depth + 1) c.args.shape.now) (c.args.gate.now.target - c.args.depth) (get_or c.args.shape.now c.args.depth 0) split c.args.memo.now c.loop-index.memo c.put.new.self c.args.rows.now c.loop-index.rows c.loop-index.invariant.done c.put.ensures.done levels pairs c.args.id (anew_at (c.args.gate.now.target - c.args.depth) (drop (c.args.depth + 1) c.args.shape.now) * length c.loop-index.pairs)
+    c.args.store.now c.loop-index.store c.node_of.new.self c.args.steps.now c.loop-index.steps c.node_of.new.steps c.put.new.steps (omega (arith, filled)) h.here (ap is_some (sym c.in_default.ensures))
     (place_put (memo_at c.loop-index.memo) (memo_at c.put.new.self) c.args.id c.in_ok-made-2.made c.in_ok-put.ensures.ok) (c.loop-index.invariant.cost levels pairs h)
     (omega (arith, c.node_of.ensures.cheap)) (added_besides _ _ _ _ _ _ c.in_ok-made-2.ensures.adds) (omega (arith, c.put.ensures.cheap))
 
@@ -242,7 +245,7 @@ act_pair-returns-in_err-first-clause-refused g t c =
     let zero : (c.args.gate.now.target - c.args.depth) ≡ 0 = omega (arith, c.if-depth-gate.true) in
     passed_on _ c.from_residual.result c.in_err-first.field-0.0 c.from_residual.ensures
     (λ levels pairs h.
-    stopped_within c.args.steps.now c.args.steps.now c.mix_sides.new.steps (owed (row_prices (drop (c.args.depth + 1) c.args.shape.now)) (is_made c.args.rows.now) pairs + 2) (gate_owed (c.args.gate.now.target - c.args.depth) (drop (c.args.depth + 1) c.args.shape.now) c.args.memo.now c.args.rows.now levels pairs + 2) _ refl (omega (arith, target_more (c.args.gate.now.target - c.args.depth) zero (drop (c.args.depth + 1) c.args.shape.now) c.args.memo.now c.args.rows.now levels pairs))
+    stopped_within c.args.steps.now c.args.steps.now c.mix_sides.new.steps (owed (row_prices (drop (c.args.depth + 1) c.args.shape.now)) (is_made c.args.rows.now) pairs + anew (drop (c.args.depth + 1) c.args.shape.now)) (gate_owed (c.args.gate.now.target - c.args.depth) (drop (c.args.depth + 1) c.args.shape.now) c.args.memo.now c.args.rows.now levels pairs + anew_at (c.args.gate.now.target - c.args.depth) (drop (c.args.depth + 1) c.args.shape.now)) _ refl (omega (arith, target_more (c.args.gate.now.target - c.args.depth) zero (drop (c.args.depth + 1) c.args.shape.now) c.args.memo.now c.args.rows.now levels pairs))
     (c.in_err-first.ensures.refused pairs (key_held c.args.gate.now c.args.store.now (c.args.gate.now.target - c.args.depth) zero (drop (c.args.depth + 1) c.args.shape.now) c.args.pair levels pairs h)))
 
 pub act_pair-returns-in_err-first-clause-cause : goal.act_pair-returns-in_err-first-clause-cause
@@ -262,7 +265,7 @@ act_pair-returns-in_err-high-clause-refused g t c =
     passed_on _ c.from_residual-in_err-high.result c.in_err-high.field-0.0 c.from_residual-in_err-high.ensures
     (λ levels pairs h.
     let s = both_held c.args.gate.now c.args.store.now (c.args.gate.now.target - c.args.depth) (c.args.gate.now.target - (c.args.depth + 1)) next (drop (c.args.depth + 1) c.args.shape.now) c.args.pair levels pairs h in
-    stopped_within c.args.steps.now c.args.steps.now c.act_at.new.steps (gate_owed (suc (c.args.gate.now.target - (c.args.depth + 1))) (drop (c.args.depth + 1) c.args.shape.now) c.args.memo.now c.args.rows.now levels pairs + 0) (gate_owed (c.args.gate.now.target - c.args.depth) (drop (c.args.depth + 1) c.args.shape.now) c.args.memo.now c.args.rows.now levels pairs + 2) _ refl (omega (arith, side_more (c.args.gate.now.target - c.args.depth) (suc (c.args.gate.now.target - (c.args.depth + 1))) next (drop (c.args.depth + 1) c.args.shape.now) c.args.memo.now c.args.rows.now levels pairs))
+    stopped_within c.args.steps.now c.args.steps.now c.act_at.new.steps (gate_owed (suc (c.args.gate.now.target - (c.args.depth + 1))) (drop (c.args.depth + 1) c.args.shape.now) c.args.memo.now c.args.rows.now levels pairs + 0) (gate_owed (c.args.gate.now.target - c.args.depth) (drop (c.args.depth + 1) c.args.shape.now) c.args.memo.now c.args.rows.now levels pairs + anew_at (c.args.gate.now.target - c.args.depth) (drop (c.args.depth + 1) c.args.shape.now)) _ refl (omega (arith, side_more (c.args.gate.now.target - c.args.depth) (suc (c.args.gate.now.target - (c.args.depth + 1))) next (drop (c.args.depth + 1) c.args.shape.now) c.args.memo.now c.args.rows.now levels pairs))
     (c.in_err-high.ensures.refused levels pairs (record { closed = s.closed; here = s.right })))
 
 pub act_pair-returns-in_err-high-clause-cause : goal.act_pair-returns-in_err-high-clause-cause
@@ -288,7 +291,7 @@ act_pair-returns-in_err-low-clause-refused g t c =
     (λ levels pairs h.
     let s = both_held c.args.gate.now c.args.store.now (c.args.gate.now.target - c.args.depth) (c.args.gate.now.target - (c.args.depth + 1)) next (drop (c.args.depth + 1) c.args.shape.now) c.args.pair levels pairs h in
     let first = (c.in_ok-high.ensures.steps levels pairs (record { closed = s.closed; here = s.right })).all in
-    stopped_within c.args.steps.now c.act_at.new.steps c.act_at-2.new.steps (gate_owed (suc (c.args.gate.now.target - (c.args.depth + 1))) (drop (c.args.depth + 1) c.args.shape.now) c.act_at.new.memo c.act_at.new.rows levels pairs + 0) (gate_owed (c.args.gate.now.target - c.args.depth) (drop (c.args.depth + 1) c.args.shape.now) c.args.memo.now c.args.rows.now levels pairs + 2) _ c.act_at.ensures.limit (omega (arith, side_more (c.args.gate.now.target - c.args.depth) (suc (c.args.gate.now.target - (c.args.depth + 1))) next (drop (c.args.depth + 1) c.args.shape.now) c.args.memo.now c.args.rows.now levels pairs))
+    stopped_within c.args.steps.now c.act_at.new.steps c.act_at-2.new.steps (gate_owed (suc (c.args.gate.now.target - (c.args.depth + 1))) (drop (c.args.depth + 1) c.args.shape.now) c.act_at.new.memo c.act_at.new.rows levels pairs + 0) (gate_owed (c.args.gate.now.target - c.args.depth) (drop (c.args.depth + 1) c.args.shape.now) c.args.memo.now c.args.rows.now levels pairs + anew_at (c.args.gate.now.target - c.args.depth) (drop (c.args.depth + 1) c.args.shape.now)) _ c.act_at.ensures.limit (omega (arith, side_more (c.args.gate.now.target - c.args.depth) (suc (c.args.gate.now.target - (c.args.depth + 1))) next (drop (c.args.depth + 1) c.args.shape.now) c.args.memo.now c.args.rows.now levels pairs))
     (c.in_err-low.ensures.refused levels pairs (record { closed = AreGateLevels-Extends c.args.gate.now c.args.store.now c.act_at.new.store c.act_at.ensures.keeps (c.args.gate.now.target - (c.args.depth + 1)) (drop (c.args.depth + 1) c.args.shape.now) levels pairs s.closed; here = s.left })))
 
 pub act_pair-returns-in_err-low-clause-cause : goal.act_pair-returns-in_err-low-clause-cause

@@ -1,6 +1,8 @@
-use Rattle.std.proofs.Common.{ℕ, ◌+◌, ◌<◌, length, drop, get_or, refl, sym, ap, ap₂, subst, ◌∙◌, rules, arith}
+use Rattle.std.proofs.Common.{ℕ, ◌+◌, ◌<◌, ◌≤◌, length, drop, get_or, refl, sym, ap, ap₂, subst, ◌∙◌, rules, arith}
 use Rattle.std.proofs.Common.{nat_eq}
 use Rattle.std.specs.List.{list_any}
+use Rattle.std.proofs.Math.ListN.{drop_of_length-le}
+use Rattle.std.proofs.Math.Nat.{mul-le-mul_left}
 use Rattle.std.proofs.lemmas.List.{length-append}
 use Rattle.aq_store.specs.Runs.{copies}
 use Rattle.aq_store.proofs.RunLemmas.{length-copies}
@@ -11,12 +13,12 @@ use Rattle.aq_store.proofs.TableLemmas.{HasShape-Extends, Extends-trans, Extends
 use Rattle.aq_store.proofs.MeansLemmas.{MeanPairs-none, pairs_at-kept, opened, means_heights, places_step, places_done}
 use Rattle.aq_store.proofs.OwedLemmas.{split_shape}
 use Rattle.aq_gate_ops.specs.Action.{IsRow}
-use Rattle.aq_gate_ops.specs.Accounts.{is_made, row_prices}
+use Rattle.aq_gate_ops.specs.Accounts.{anew, is_made, row_prices}
 use Rattle.aq_store.specs.Owed.{owed, rest_of}
 use Rattle.aq_store.proofs.StopLemmas.{passed_on}
 use Rattle.std.proofs.Common.{◌*◌, is_some}
 use Rattle.aq_gate_ops.proofs.CauseLemmas.{cause_map, alone_cause, row_cause_leaf, rows_cause_kept, row_cause_low, row_cause_high, row_cause_choice}
-use Rattle.aq_gate_ops.proofs.RowAccounts.{pays_then, pays_nodes, pays_nothing, pays_more, pays_leaves, row_paid, row_more, pair_put, ArePairLevels-Extends, key_below, two_held}
+use Rattle.aq_gate_ops.proofs.RowAccounts.{paid_product, pays_then, pays_nodes, pays_nothing, pays_more, leaves_paid, low_paid, low_more, row_paid, row_more, pair_put, ArePairLevels-Extends, key_below, two_held}
 use Rattle.aq_gate_ops.proofs.ExchangeLemmas.{rows_exchanged}
 use Rattle.aq_gate_ops.proofs.ZeroLemmas.{rows_zero}
 use Rattle.aq_gate_ops.proofs.StoppedLemmas.{stopped_within, stopped_memory, stopped_put}
@@ -94,8 +96,8 @@ mix_at-returns-then-depth-shape-clause-memo g t c =
 
 pub mix_at-returns-clause-memo : goal.mix_at-returns-clause-memo
 mix_at-returns-clause-memo g t c =
-    IsRowMemo-put g.L.Label.parts g.L.Label.part_count c.args.gate.now c.args.shape.now c.args.store.now c.mix_inner.new.store c.mix_inner.ensures.keeps (pair_memo_at c.mix_inner.new.memo) (pair_memo_at c.put.new.self) c.args.depth (c.args.left, c.args.right) (c.in_ok-first-2.first, c.in_ok-first-2.second) c.requires.deep c.requires.left c.requires.right
-    c.in_ok-first-2.ensures.memo c.in_ok-first-2.ensures.rows.first c.in_ok-first-2.ensures.rows.second c.in_ok-put.ensures.ok
+    IsRowMemo-put g.L.Label.parts g.L.Label.part_count c.args.gate.now c.args.shape.now c.args.store.now c.mix_inner-2.new.store c.mix_inner-2.ensures.keeps (pair_memo_at c.mix_inner-2.new.memo) (pair_memo_at c.put.new.self) c.args.depth (c.args.left, c.args.right) (c.in_ok-first-3.first, c.in_ok-first-3.second) c.requires.deep c.requires.left c.requires.right
+    c.in_ok-first-3.ensures.memo c.in_ok-first-3.ensures.rows.first c.in_ok-first-3.ensures.rows.second c.in_ok-put.ensures.ok
 
 pub mix_inner-mix_pair-requires : goal.mix_inner-mix_pair-requires
 mix_inner-mix_pair-requires g t c κs within =
@@ -121,7 +123,7 @@ mix_inner-loop-choice-preserved g t c =
       paid = c.mix_pair.ensures.paid;
       limit = c.mix_pair.ensures.limit ∙ c.loop-choice.invariant.limit;
       done = λ q h. c.mix_pair.ensures.done q (c.loop-choice.invariant.done q h);
-      cost = λ levels h. pays_then _ _ _ _ _ _ (4 * c.loop-choice.choice) 4 _ c.args.store.now c.loop-choice.store c.mix_pair.new.store c.args.steps.now c.loop-choice.steps c.mix_pair.new.steps (omega (arith, c.least-count.ensures.some (c.least-most.ensures.some c.run_from-lefts.ensures.some c.run_from-rights.ensures.some) (omega (arith, c.loop-choice-test.true))))
+      cost = λ levels h. pays_then _ _ _ _ _ _ (2 * anew (drop (c.args.depth + 1) c.args.shape.now) * c.loop-choice.choice) (2 * anew (drop (c.args.depth + 1) c.args.shape.now)) _ c.args.store.now c.loop-choice.store c.mix_pair.new.store c.args.steps.now c.loop-choice.steps c.mix_pair.new.steps (paid_product (2 * anew (drop (c.args.depth + 1) c.args.shape.now)) c.loop-choice.choice (c.loop-choice.choice + c.least-count.result) (omega (arith, c.least-count.ensures.some (c.least-most.ensures.some c.run_from-lefts.ensures.some c.run_from-rights.ensures.some) (omega (arith, c.loop-choice-test.true)))))
           (c.loop-choice.invariant.cost levels h) (c.in_ok-made.ensures.steps levels (two_held c.args.store.now c.loop-choice.store c.loop-choice.invariant.keeps (drop c.args.depth c.args.shape.now) (drop (c.args.depth + 1) c.args.shape.now)
           (c.args.left, c.args.right) c.run_from-lefts.result.0 c.run_from-rights.result.0 (c.loop-choice.choice + 0) levels c.requires.left c.requires.right h
           (c.run_from-lefts.ensures.same 0 c.run_from-lefts.ensures.some) (c.run_from-rights.ensures.same 0 c.run_from-rights.ensures.some)));
@@ -195,7 +197,7 @@ mix_at-returns-then-only_exchanges-clause-steps g t c =
 pub mix_at-returns-in_err-first-clause-refused : goal.mix_at-returns-in_err-first-clause-refused
 mix_at-returns-in_err-first-clause-refused g t c =
     passed_on _ c.from_residual.result c.in_err-first.field-0.0 c.from_residual.ensures
-    (λ levels h. stopped_within c.args.steps.now c.args.steps.now c.mix_leaves.new.steps 2 (owed (row_prices (drop c.args.depth c.args.shape.now)) (is_made c.args.memo.now) levels + 2) _ refl (omega arith) c.in_err-first.ensures.refused)
+    (λ levels h. stopped_within c.args.steps.now c.args.steps.now c.mix_leaves.new.steps 2 (owed (row_prices (drop c.args.depth c.args.shape.now)) (is_made c.args.memo.now) levels + anew (drop c.args.depth c.args.shape.now)) _ refl (omega (arith, ap anew (drop_of_length-le c.args.shape.now (let k : length c.args.shape.now ≤ c.args.depth = omega arith in k)))) c.in_err-first.ensures.refused)
 
 pub mix_at-returns-in_err-first-clause-cause : goal.mix_at-returns-in_err-first-clause-cause
 mix_at-returns-in_err-first-clause-cause g t c =
@@ -204,22 +206,22 @@ mix_at-returns-in_err-first-clause-cause g t c =
 
 pub mix_at-returns-then-depth-shape-clause-steps : goal.mix_at-returns-then-depth-shape-clause-steps
 mix_at-returns-then-depth-shape-clause-steps g t c =
-    λ levels h. pays_leaves _ _ c.args.store.now c.mix_leaves.new.store c.args.steps.now c.mix_leaves.new.steps c.mix_leaves.ensures.cheap c.in_ok-first.ensures.besides
+    λ levels h. leaves_paid (drop c.args.depth c.args.shape.now) (drop_of_length-le c.args.shape.now (let k : length c.args.shape.now ≤ c.args.depth = omega arith in k)) (is_made c.args.memo.now) levels c.args.store.now c.mix_leaves.new.store c.args.steps.now c.mix_leaves.new.steps c.mix_leaves.ensures.cheap c.in_ok-first.ensures.besides
 
-pub mix_at-returns-in_err-first-2-clause-refused : goal.mix_at-returns-in_err-first-2-clause-refused
-mix_at-returns-in_err-first-2-clause-refused g t c =
+pub mix_at-returns-in_err-first-3-clause-refused : goal.mix_at-returns-in_err-first-3-clause-refused
+mix_at-returns-in_err-first-3-clause-refused g t c =
     let lt : c.args.depth < length c.args.shape.now = omega (arith, c.requires.deep) in
     let split = split_shape c.args.shape.now c.args.depth lt in
     let none = ap is_some (sym c.in_default.ensures) in
-    passed_on _ c.from_residual-in_err-first-2.result c.in_err-first-2.field-0.0 c.from_residual-in_err-first-2.ensures
+    passed_on _ c.from_residual-in_err-first-3.result c.in_err-first-3.field-0.0 c.from_residual-in_err-first-3.ensures
     (λ levels h.
-    let most = row_more (drop c.args.depth c.args.shape.now) (drop (c.args.depth + 1) c.args.shape.now) (get_or c.args.shape.now c.args.depth 0) split (is_made c.args.memo.now) levels (c.args.left, c.args.right) h.here none in
-    stopped_within c.args.steps.now c.args.steps.now c.mix_inner.new.steps (owed (row_prices (drop (c.args.depth + 1) c.args.shape.now)) (is_made c.args.memo.now) (rest_of levels) + 6 * (get_or c.args.shape.now c.args.depth 0)) (owed (row_prices (drop c.args.depth c.args.shape.now)) (is_made c.args.memo.now) levels + 2) _ refl (omega arith) (c.in_err-first-2.ensures.refused (rest_of levels) (key_below c.args.store.now (drop c.args.depth c.args.shape.now) (drop (c.args.depth + 1) c.args.shape.now) (get_or c.args.shape.now c.args.depth 0) split (c.args.left, c.args.right) levels h)))
+    let most = row_more (drop c.args.depth c.args.shape.now) (drop (c.args.depth + 1) c.args.shape.now) (get_or c.args.shape.now c.args.depth 0) split (sym c.has_no_entry.ensures ∙ c.if-has_no_entry.false) (is_made c.args.memo.now) levels (c.args.left, c.args.right) h.here none in
+    stopped_within c.args.steps.now c.args.steps.now c.mix_inner-2.new.steps (owed (row_prices (drop (c.args.depth + 1) c.args.shape.now)) (is_made c.args.memo.now) (rest_of levels) + (2 * (get_or c.args.shape.now c.args.depth 0) + (get_or c.args.shape.now c.args.depth 0) * (2 * anew (drop (c.args.depth + 1) c.args.shape.now)))) (owed (row_prices (drop c.args.depth c.args.shape.now)) (is_made c.args.memo.now) levels + anew (drop c.args.depth c.args.shape.now)) _ refl (omega arith) (c.in_err-first-3.ensures.refused (rest_of levels) (key_below c.args.store.now (drop c.args.depth c.args.shape.now) (drop (c.args.depth + 1) c.args.shape.now) (get_or c.args.shape.now c.args.depth 0) split (c.args.left, c.args.right) levels h)))
 
-pub mix_at-returns-in_err-first-2-clause-cause : goal.mix_at-returns-in_err-first-2-clause-cause
-mix_at-returns-in_err-first-2-clause-cause g t c =
-    passed_on _ c.from_residual-in_err-first-2.result c.in_err-first-2.field-0.0 c.from_residual-in_err-first-2.ensures
-    (c.in_err-first-2.ensures.cause)
+pub mix_at-returns-in_err-first-3-clause-cause : goal.mix_at-returns-in_err-first-3-clause-cause
+mix_at-returns-in_err-first-3-clause-cause g t c =
+    passed_on _ c.from_residual-in_err-first-3.result c.in_err-first-3.field-0.0 c.from_residual-in_err-first-3.ensures
+    (c.in_err-first-3.ensures.cause)
 
 pub mix_at-returns-in_err-put-clause-refused : goal.mix_at-returns-in_err-put-clause-refused
 mix_at-returns-in_err-put-clause-refused g t c =
@@ -228,9 +230,9 @@ mix_at-returns-in_err-put-clause-refused g t c =
     let none = ap is_some (sym c.in_default.ensures) in
     passed_on _ c.from_residual-in_err-put.result c.in_err-put.field-0.0 c.from_residual-in_err-put.ensures
     (λ levels h.
-    let most = row_more (drop c.args.depth c.args.shape.now) (drop (c.args.depth + 1) c.args.shape.now) (get_or c.args.shape.now c.args.depth 0) split (is_made c.args.memo.now) levels (c.args.left, c.args.right) h.here none in
-    let inner = (c.in_ok-first-2.ensures.steps (rest_of levels) (key_below c.args.store.now (drop c.args.depth c.args.shape.now) (drop (c.args.depth + 1) c.args.shape.now) (get_or c.args.shape.now c.args.depth 0) split (c.args.left, c.args.right) levels h)).all in
-    stopped_within c.args.steps.now c.mix_inner.new.steps c.put.new.steps 1 (owed (row_prices (drop c.args.depth c.args.shape.now)) (is_made c.args.memo.now) levels + 2) _ c.mix_inner.ensures.limit (omega arith) (stopped_put _ _ 1 _ c.put.ensures.cheap c.in_err-put.ensures.refused))
+    let most = row_more (drop c.args.depth c.args.shape.now) (drop (c.args.depth + 1) c.args.shape.now) (get_or c.args.shape.now c.args.depth 0) split (sym c.has_no_entry.ensures ∙ c.if-has_no_entry.false) (is_made c.args.memo.now) levels (c.args.left, c.args.right) h.here none in
+    let inner = (c.in_ok-first-3.ensures.steps (rest_of levels) (key_below c.args.store.now (drop c.args.depth c.args.shape.now) (drop (c.args.depth + 1) c.args.shape.now) (get_or c.args.shape.now c.args.depth 0) split (c.args.left, c.args.right) levels h)).all in
+    stopped_within c.args.steps.now c.mix_inner-2.new.steps c.put.new.steps 1 (owed (row_prices (drop c.args.depth c.args.shape.now)) (is_made c.args.memo.now) levels + anew (drop c.args.depth c.args.shape.now)) _ c.mix_inner-2.ensures.limit (omega arith) (stopped_put _ _ 1 _ c.put.ensures.cheap c.in_err-put.ensures.refused))
 
 pub mix_at-returns-in_err-put-clause-cause : goal.mix_at-returns-in_err-put-clause-cause
 mix_at-returns-in_err-put-clause-cause g t c =
@@ -242,8 +244,8 @@ mix_at-returns-clause-steps g t c =
     let lt : c.args.depth < length c.args.shape.now = omega (arith, c.requires.deep) in
     let split = split_shape c.args.shape.now c.args.depth lt in
     let none = ap is_some (sym c.in_default.ensures) in
-    λ levels h. row_paid (drop c.args.depth c.args.shape.now) (drop (c.args.depth + 1) c.args.shape.now) (get_or c.args.shape.now c.args.depth 0) split (is_made c.args.memo.now) (is_made c.mix_inner.new.memo) (is_made c.put.new.self) c.mix_inner.ensures.done c.put.ensures.done levels (c.args.left, c.args.right) c.args.store.now c.mix_inner.new.store c.args.steps.now c.mix_inner.new.steps c.put.new.steps h.here none
-    (pair_put c.mix_inner.new.memo c.put.new.self (c.args.left, c.args.right) (c.in_ok-first-2.first, c.in_ok-first-2.second) c.in_ok-put.ensures.ok) (omega (arith, c.put.ensures.cheap)) (c.in_ok-first-2.ensures.steps (rest_of levels) (key_below c.args.store.now (drop c.args.depth c.args.shape.now) (drop (c.args.depth + 1) c.args.shape.now) (get_or c.args.shape.now c.args.depth 0) split (c.args.left, c.args.right) levels h))
+    λ levels h. row_paid (drop c.args.depth c.args.shape.now) (drop (c.args.depth + 1) c.args.shape.now) (get_or c.args.shape.now c.args.depth 0) split (sym c.has_no_entry.ensures ∙ c.if-has_no_entry.false) (is_made c.args.memo.now) (is_made c.mix_inner-2.new.memo) (is_made c.put.new.self) c.mix_inner-2.ensures.done c.put.ensures.done levels (c.args.left, c.args.right) c.args.store.now c.mix_inner-2.new.store c.args.steps.now c.mix_inner-2.new.steps c.put.new.steps h.here none
+    (pair_put c.mix_inner-2.new.memo c.put.new.self (c.args.left, c.args.right) (c.in_ok-first-3.first, c.in_ok-first-3.second) c.in_ok-put.ensures.ok) (omega (arith, c.put.ensures.cheap)) (c.in_ok-first-3.ensures.steps (rest_of levels) (key_below c.args.store.now (drop c.args.depth c.args.shape.now) (drop (c.args.depth + 1) c.args.shape.now) (get_or c.args.shape.now c.args.depth 0) split (c.args.left, c.args.right) levels h))
 
 pub mix_inner-loop-choice-init : goal.mix_inner-loop-choice-init
 mix_inner-loop-choice-init g t c =
@@ -266,7 +268,7 @@ mix_inner-returns-in_err-made-clause-refused g t c =
     passed_on _ c.from_residual.result c.in_err-made.field-0.0 c.from_residual.ensures
     (λ levels h.
     let cost = (c.loop-choice.invariant.cost levels h).all in
-    stopped_within c.args.steps.now c.loop-choice.steps c.mix_pair.new.steps (owed (row_prices (drop (c.args.depth + 1) c.args.shape.now)) (is_made c.loop-choice.memo) levels + 4) (owed (row_prices (drop (c.args.depth + 1) c.args.shape.now)) (is_made c.args.memo.now) levels + 6 * (get_or c.args.shape.now c.args.depth 0)) _ c.loop-choice.invariant.limit (omega (arith, c.loop-choice-test.true)) (c.in_err-made.ensures.refused levels (two_held c.args.store.now c.loop-choice.store c.loop-choice.invariant.keeps (drop c.args.depth c.args.shape.now) (drop (c.args.depth + 1) c.args.shape.now) (c.args.left, c.args.right) c.run_from-lefts.result.0 c.run_from-rights.result.0 (c.loop-choice.choice + 0) levels c.requires.left c.requires.right h (c.run_from-lefts.ensures.same 0 c.run_from-lefts.ensures.some) (c.run_from-rights.ensures.same 0 c.run_from-rights.ensures.some))))
+    stopped_within c.args.steps.now c.loop-choice.steps c.mix_pair.new.steps (owed (row_prices (drop (c.args.depth + 1) c.args.shape.now)) (is_made c.loop-choice.memo) levels + 2 * anew (drop (c.args.depth + 1) c.args.shape.now)) (owed (row_prices (drop (c.args.depth + 1) c.args.shape.now)) (is_made c.args.memo.now) levels + (2 * (get_or c.args.shape.now c.args.depth 0) + (get_or c.args.shape.now c.args.depth 0) * (2 * anew (drop (c.args.depth + 1) c.args.shape.now)))) _ c.loop-choice.invariant.limit (omega (arith, paid_product (2 * anew (drop (c.args.depth + 1) c.args.shape.now)) c.loop-choice.choice (get_or c.args.shape.now c.args.depth 0) (omega (arith, c.loop-choice-test.true)))) (c.in_err-made.ensures.refused levels (two_held c.args.store.now c.loop-choice.store c.loop-choice.invariant.keeps (drop c.args.depth c.args.shape.now) (drop (c.args.depth + 1) c.args.shape.now) (c.args.left, c.args.right) c.run_from-lefts.result.0 c.run_from-rights.result.0 (c.loop-choice.choice + 0) levels c.requires.left c.requires.right h (c.run_from-lefts.ensures.same 0 c.run_from-lefts.ensures.some) (c.run_from-rights.ensures.same 0 c.run_from-rights.ensures.some))))
 
 pub mix_inner-returns-in_err-made-clause-cause : goal.mix_inner-returns-in_err-made-clause-cause
 mix_inner-returns-in_err-made-clause-cause g t c =
@@ -278,7 +280,7 @@ mix_inner-returns-then-not-push_both-clause-refused g t c =
     λ levels h.
     let cost = (c.loop-choice.invariant.cost levels h).all in
     let inner = (c.in_ok-made.ensures.steps levels (two_held c.args.store.now c.loop-choice.store c.loop-choice.invariant.keeps (drop c.args.depth c.args.shape.now) (drop (c.args.depth + 1) c.args.shape.now) (c.args.left, c.args.right) c.run_from-lefts.result.0 c.run_from-rights.result.0 (c.loop-choice.choice + 0) levels c.requires.left c.requires.right h (c.run_from-lefts.ensures.same 0 c.run_from-lefts.ensures.some) (c.run_from-rights.ensures.same 0 c.run_from-rights.ensures.some))).all in
-    stopped_memory c.args.steps.now c.mix_pair.new.steps (owed (row_prices (drop (c.args.depth + 1) c.args.shape.now)) (is_made c.args.memo.now) levels + 6 * (get_or c.args.shape.now c.args.depth 0)) _ (omega (arith, c.loop-choice-test.true)) refl
+    stopped_memory c.args.steps.now c.mix_pair.new.steps (owed (row_prices (drop (c.args.depth + 1) c.args.shape.now)) (is_made c.args.memo.now) levels + (2 * (get_or c.args.shape.now c.args.depth 0) + (get_or c.args.shape.now c.args.depth 0) * (2 * anew (drop (c.args.depth + 1) c.args.shape.now)))) _ (omega (arith, paid_product (2 * anew (drop (c.args.depth + 1) c.args.shape.now)) c.loop-choice.choice (get_or c.args.shape.now c.args.depth 0) (omega (arith, c.loop-choice-test.true)))) refl
 
 pub mix_inner-returns-in_err-first-clause-refused : goal.mix_inner-returns-in_err-first-clause-refused
 mix_inner-returns-in_err-first-clause-refused g t c =
@@ -286,7 +288,7 @@ mix_inner-returns-in_err-first-clause-refused g t c =
     passed_on _ c.from_residual-in_err-first.result c.in_err-first.field-0.0 c.from_residual-in_err-first.ensures
     (λ levels h.
     let cost = (c.loop-choice.invariant.cost levels h).all in
-    stopped_within c.args.steps.now c.loop-choice.steps c.both_nodes.new.steps (2 * length c.loop-choice.firsts) (owed (row_prices (drop (c.args.depth + 1) c.args.shape.now)) (is_made c.args.memo.now) levels + 6 * (get_or c.args.shape.now c.args.depth 0)) _ c.loop-choice.invariant.limit (omega (arith, c.loop-choice.invariant.first_count, c.loop-choice.invariant.within)) c.in_err-first.ensures.refused)
+    stopped_within c.args.steps.now c.loop-choice.steps c.both_nodes.new.steps (2 * length c.loop-choice.firsts) (owed (row_prices (drop (c.args.depth + 1) c.args.shape.now)) (is_made c.args.memo.now) levels + (2 * (get_or c.args.shape.now c.args.depth 0) + (get_or c.args.shape.now c.args.depth 0) * (2 * anew (drop (c.args.depth + 1) c.args.shape.now)))) _ c.loop-choice.invariant.limit (omega (arith, c.loop-choice.invariant.first_count, c.loop-choice.invariant.within, mul-le-mul_left (2 * anew (drop (c.args.depth + 1) c.args.shape.now)) c.loop-choice.invariant.within)) c.in_err-first.ensures.refused)
 
 pub mix_inner-returns-in_err-first-clause-cause : goal.mix_inner-returns-in_err-first-clause-cause
 mix_inner-returns-in_err-first-clause-cause g t c =
@@ -295,12 +297,12 @@ mix_inner-returns-in_err-first-clause-cause g t c =
 
 pub mix_inner-returns-clause-steps : goal.mix_inner-returns-clause-steps
 mix_inner-returns-clause-steps g t c =
-    λ levels h. pays_nodes _ _ _ _ (4 * c.loop-choice.choice) (2 * (get_or c.args.shape.now c.args.depth 0)) _ c.args.store.now c.loop-choice.store c.both_nodes.new.store c.args.steps.now c.loop-choice.steps c.both_nodes.new.steps (omega (arith, c.loop-choice.invariant.within)) (c.loop-choice.invariant.cost levels h) (omega (arith, c.both_nodes.ensures.cheap, c.loop-choice.invariant.first_count, c.loop-choice.invariant.within)) c.in_ok-first.ensures.besides
+    λ levels h. pays_nodes _ _ _ _ (2 * anew (drop (c.args.depth + 1) c.args.shape.now) * c.loop-choice.choice) (2 * (get_or c.args.shape.now c.args.depth 0)) _ c.args.store.now c.loop-choice.store c.both_nodes.new.store c.args.steps.now c.loop-choice.steps c.both_nodes.new.steps (omega (arith, mul-le-mul_left (2 * anew (drop (c.args.depth + 1) c.args.shape.now)) c.loop-choice.invariant.within)) (c.loop-choice.invariant.cost levels h) (omega (arith, c.both_nodes.ensures.cheap, c.loop-choice.invariant.first_count, c.loop-choice.invariant.within)) c.in_ok-first.ensures.besides
 
 pub mix_pair-returns-in_err-high-clause-refused : goal.mix_pair-returns-in_err-high-clause-refused
 mix_pair-returns-in_err-high-clause-refused g t c =
     passed_on _ c.from_residual.result c.in_err-high.field-0.0 c.from_residual.ensures
-    (λ levels h. stopped_within c.args.steps.now c.args.steps.now c.mix_at.new.steps (owed (row_prices (drop (c.args.depth + 1) c.args.shape.now)) (is_made c.args.memo.now) levels + 2) (owed (row_prices (drop (c.args.depth + 1) c.args.shape.now)) (is_made c.args.memo.now) levels + 4) _ refl (omega arith)
+    (λ levels h. stopped_within c.args.steps.now c.args.steps.now c.mix_at.new.steps (owed (row_prices (drop (c.args.depth + 1) c.args.shape.now)) (is_made c.args.memo.now) levels + anew (drop (c.args.depth + 1) c.args.shape.now)) (owed (row_prices (drop (c.args.depth + 1) c.args.shape.now)) (is_made c.args.memo.now) levels + 2 * anew (drop (c.args.depth + 1) c.args.shape.now)) _ refl (omega arith)
     (c.in_err-high.ensures.refused levels (record { closed = h.closed; here = h.high })))
 
 pub mix_pair-returns-in_err-high-clause-cause : goal.mix_pair-returns-in_err-high-clause-cause
@@ -310,14 +312,14 @@ mix_pair-returns-in_err-high-clause-cause g t c =
 
 pub mix_pair-returns-then-is_control-clause-steps : goal.mix_pair-returns-then-is_control-clause-steps
 mix_pair-returns-then-is_control-clause-steps g t c =
-    λ levels h. pays_more _ _ _ _ 2 4 c.args.store.now c.mix_at.new.store c.args.steps.now c.mix_at.new.steps (omega arith) (c.in_ok-high.ensures.steps levels (record { closed = h.closed; here = h.high }))
+    λ levels h. pays_more _ _ _ _ (anew (drop (c.args.depth + 1) c.args.shape.now)) (2 * anew (drop (c.args.depth + 1) c.args.shape.now)) c.args.store.now c.mix_at.new.store c.args.steps.now c.mix_at.new.steps (omega arith) (c.in_ok-high.ensures.steps levels (record { closed = h.closed; here = h.high }))
 
 pub mix_pair-returns-in_err-low-clause-refused : goal.mix_pair-returns-in_err-low-clause-refused
 mix_pair-returns-in_err-low-clause-refused g t c =
     passed_on _ c.from_residual-in_err-low.result c.in_err-low.field-0.0 c.from_residual-in_err-low.ensures
     (λ levels h.
     let first = (c.in_ok-high.ensures.steps levels (record { closed = h.closed; here = h.high })).all in
-    stopped_within c.args.steps.now c.mix_at.new.steps c.mix_at-2.new.steps (owed (row_prices (drop (c.args.depth + 1) c.args.shape.now)) (is_made c.mix_at.new.memo) levels + 2) (owed (row_prices (drop (c.args.depth + 1) c.args.shape.now)) (is_made c.args.memo.now) levels + 4) _ c.mix_at.ensures.limit (omega arith) (c.in_err-low.ensures.refused levels (record { closed = ArePairLevels-Extends c.args.store.now c.mix_at.new.store c.mix_at.ensures.keeps (drop (c.args.depth + 1) c.args.shape.now) levels h.closed; here = h.low })))
+    stopped_within c.args.steps.now c.mix_at.new.steps c.mix_at-2.new.steps (owed (row_prices (drop (c.args.depth + 1) c.args.shape.now)) (is_made c.mix_at.new.memo) levels + anew (drop (c.args.depth + 1) c.args.shape.now)) (owed (row_prices (drop (c.args.depth + 1) c.args.shape.now)) (is_made c.args.memo.now) levels + 2 * anew (drop (c.args.depth + 1) c.args.shape.now)) _ c.mix_at.ensures.limit (omega arith) (c.in_err-low.ensures.refused levels (record { closed = ArePairLevels-Extends c.args.store.now c.mix_at.new.store c.mix_at.ensures.keeps (drop (c.args.depth + 1) c.args.shape.now) levels h.closed; here = h.low })))
 
 pub mix_pair-returns-in_err-low-clause-cause : goal.mix_pair-returns-in_err-low-clause-cause
 mix_pair-returns-in_err-low-clause-cause g t c =
@@ -327,4 +329,27 @@ mix_pair-returns-in_err-low-clause-cause g t c =
 
 pub mix_pair-returns-clause-steps : goal.mix_pair-returns-clause-steps
 mix_pair-returns-clause-steps g t c =
-    λ levels h. pays_then _ _ _ _ _ _ 2 2 4 c.args.store.now c.mix_at.new.store c.mix_at-2.new.store c.args.steps.now c.mix_at.new.steps c.mix_at-2.new.steps (omega arith) (c.in_ok-high.ensures.steps levels (record { closed = h.closed; here = h.high })) (c.in_ok-low.ensures.steps levels (record { closed = ArePairLevels-Extends c.args.store.now c.mix_at.new.store c.mix_at.ensures.keeps (drop (c.args.depth + 1) c.args.shape.now) levels h.closed; here = h.low }))
+    λ levels h. pays_then _ _ _ _ _ _ (anew (drop (c.args.depth + 1) c.args.shape.now)) (anew (drop (c.args.depth + 1) c.args.shape.now)) (2 * anew (drop (c.args.depth + 1) c.args.shape.now)) c.args.store.now c.mix_at.new.store c.mix_at-2.new.store c.args.steps.now c.mix_at.new.steps c.mix_at-2.new.steps (omega arith) (c.in_ok-high.ensures.steps levels (record { closed = h.closed; here = h.high })) (c.in_ok-low.ensures.steps levels (record { closed = ArePairLevels-Extends c.args.store.now c.mix_at.new.store c.mix_at.ensures.keeps (drop (c.args.depth + 1) c.args.shape.now) levels h.closed; here = h.low }))
+
+pub mix_at-returns-in_err-first-2-clause-refused : goal.mix_at-returns-in_err-first-2-clause-refused
+mix_at-returns-in_err-first-2-clause-refused g t c =
+    let lt : c.args.depth < length c.args.shape.now = omega (arith, c.requires.deep) in
+    let split = split_shape c.args.shape.now c.args.depth lt in
+    let low = sym c.has_no_entry.ensures ∙ c.if-has_no_entry.true in
+    passed_on _ c.from_residual-in_err-first-2.result c.in_err-first-2.field-0.0 c.from_residual-in_err-first-2.ensures
+    (λ levels h.
+    stopped_within c.args.steps.now c.args.steps.now c.mix_inner.new.steps (owed (row_prices (drop (c.args.depth + 1) c.args.shape.now)) (is_made c.args.memo.now) (rest_of levels) + (2 * (get_or c.args.shape.now c.args.depth 0) + (get_or c.args.shape.now c.args.depth 0) * (2 * anew (drop (c.args.depth + 1) c.args.shape.now)))) (owed (row_prices (drop c.args.depth c.args.shape.now)) (is_made c.args.memo.now) levels + anew (drop c.args.depth c.args.shape.now)) _ refl
+    (omega (arith, low_more (drop c.args.depth c.args.shape.now) (drop (c.args.depth + 1) c.args.shape.now) (get_or c.args.shape.now c.args.depth 0) split low (is_made c.args.memo.now) levels)) (c.in_err-first-2.ensures.refused (rest_of levels) (key_below c.args.store.now (drop c.args.depth c.args.shape.now) (drop (c.args.depth + 1) c.args.shape.now) (get_or c.args.shape.now c.args.depth 0) split (c.args.left, c.args.right) levels h)))
+
+pub mix_at-returns-in_err-first-2-clause-cause : goal.mix_at-returns-in_err-first-2-clause-cause
+mix_at-returns-in_err-first-2-clause-cause g t c =
+    passed_on _ c.from_residual-in_err-first-2.result c.in_err-first-2.field-0.0 c.from_residual-in_err-first-2.ensures
+    (c.in_err-first-2.ensures.cause)
+
+pub mix_at-returns-then-has_no_entry-clause-steps : goal.mix_at-returns-then-has_no_entry-clause-steps
+mix_at-returns-then-has_no_entry-clause-steps g t c =
+    let lt : c.args.depth < length c.args.shape.now = omega (arith, c.requires.deep) in
+    let split = split_shape c.args.shape.now c.args.depth lt in
+    let low = sym c.has_no_entry.ensures ∙ c.if-has_no_entry.true in
+    λ levels h. low_paid (drop c.args.depth c.args.shape.now) (drop (c.args.depth + 1) c.args.shape.now) (get_or c.args.shape.now c.args.depth 0) split low (is_made c.args.memo.now) (is_made c.mix_inner.new.memo) levels c.args.store.now c.mix_inner.new.store c.args.steps.now c.mix_inner.new.steps
+    (c.in_ok-first-2.ensures.steps (rest_of levels) (key_below c.args.store.now (drop c.args.depth c.args.shape.now) (drop (c.args.depth + 1) c.args.shape.now) (get_or c.args.shape.now c.args.depth 0) split (c.args.left, c.args.right) levels h))
