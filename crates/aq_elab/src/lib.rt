@@ -3,8 +3,6 @@
 
 mod angle;
 mod calls;
-#[cfg(test)]
-mod calls_tests;
 mod elaborator;
 mod fault;
 mod gates;
