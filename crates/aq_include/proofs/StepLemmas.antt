@@ -4,13 +4,13 @@ use Rattle.std.specs.Prelude.{slice_index}
 use Rattle.std.proofs.Math.Nat.{mul-le-mul_left, mul-le-mul_right}
 use Rattle.std.proofs.lemmas.List.{drop_more, drop_all, take_more, length-map, length-take-le}
 use Rattle.std.proofs.lemmas.Bool.{cases_lt}
-use Rattle.std.proofs.lemmas.List.Sums.{sum_by-cons, sum_by-append, sum_by_push, sum_by-le-sum_by, sum_by-take-le, get_or-le-sum_by}
+use Rattle.std.proofs.lemmas.List.Sums.{sum_by-cons, sum_by-append, sum_by_push, sum_by-take-le, get_or-le-sum_by}
 use Rattle.std.proofs.lemmas.Option.{slice_get-get_or, slice_get_within, get_or_from_slice_get}
 use Rattle.aq_ring.specs.Fractions.{Amplitude}
 use Rattle.aq_ring.specs.Vectors.{scaled}
 use Rattle.aq_store.specs.declared.node.Node.{Node}
 use Rattle.aq_store.specs.declared.lsta.Lsta.{Lsta}
-use Rattle.aq_store.specs.Count.{Count, after}
+use Rattle.aq_store.specs.Count.{Count}
 use Rattle.aq_store.specs.Nodes.{HasShape, pairs_at}
 use Rattle.aq_store.proofs.TableLemmas.{slice_get-push, slice_get-some}
 use Rattle.aq_cert.specs.declared.cert.Rel.{Rel}

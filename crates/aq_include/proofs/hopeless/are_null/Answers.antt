@@ -1,4 +1,4 @@
-use Rattle.std.proofs.Common.{ℕ, sym, subst}
+use Rattle.std.proofs.Common.{subst}
 use Rattle.std.proofs.lemmas.Bool.{OnTrue_at}
 use Rattle.aq_store.specs.Kinds.{IsNull}
 use Rattle.aq_include.proofs.HopelessLemmas.{null-more}

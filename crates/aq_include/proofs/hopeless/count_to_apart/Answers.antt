@@ -1,4 +1,4 @@
-use Rattle.std.proofs.Common.{◌≡◌, ℕ, slice_get, get_or, Some, inl, inr, subst, ap, sym, ◌∙◌}
+use Rattle.std.proofs.Common.{◌≡◌, ℕ, slice_get, get_or, Some, inl, inr, subst}
 use Rattle.std.proofs.lemmas.List.Elements.{Contains-get_or}
 use Rattle.aq_store.specs.Nodes.{pairs_at}
 use Rattle.aq_include.specs.declared.places.Opened.{Opened}
