@@ -1,5 +1,5 @@
 -- What a macro holds, the macro under a choice holds.
-use Rattle.std.proofs.Common.{◌≡◌, ℕ, suc, ◌+◌, ◌*◌, ◌<◌, inl, inr, List, [], ◌∷◌, ◌++◌, length, slice_get, Some, Contains, refl, sym, ap, ap₂, subst, ◌∙◌, arith}
+use Rattle.std.proofs.Common.{◌≡◌, ℕ, suc, ◌+◌, ◌*◌, ◌<◌, ◌⊎◌, inl, inr, List, [], ◌∷◌, ◌++◌, length, slice_get, Some, Contains, refl, sym, ap, ap₂, subst, ◌∙◌, arith}
 use Rattle.std.specs.List.{flat_map}
 use Rattle.std.proofs.lemmas.List.{length-append, length-map}
 use Rattle.aq_ring.specs.Fractions.{Amplitude}
@@ -16,6 +16,7 @@ use Rattle.aq_cert.specs.Macros.{IsOfLevel, IsZeroOn, IsRelated}
 use Rattle.aq_cert.specs.Held.{IsHeldBy, IsHeld}
 use Rattle.aq_cert.proofs.StepLemmas.{zero-left, zero-right, append-split, scaled-append, children, amplitudes-step}
 use Rattle.aq_cert.proofs.HeldLemmas.{IsBelow}
+use Rattle.aq_include.specs.Hopeless.{AreNull}
 use Rattle.aq_include.specs.Steps.{IsChild, IsOnly, IsBack, Keeps, pair_children_of}
 use Rattle.aq_include.proofs.ChildLemmas.{child-of}
 
@@ -109,10 +110,11 @@ module _ {L : Type 0} (parts : L → List Amplitude) (count : ℕ) (all_parts : 
         (λ p listed. let z = level.pairs number rel p here listed in (z.0, subst (λ sh. HasShape table sh p.1) s z.1)) e is_word.0 related)
 
     pub held-back : (c n : ℕ) (left : List ℕ) (rest below : ℕ → List ℕ) (m to : Macro) → c < n → IsBelow rest below
-        → IsOfLevel table (n ∷ left) rest m → IsBack table c m to → Keeps parts table c left rest below m to → (word : List ℕ) → IsWord left word
+        → IsOfLevel table (n ∷ left) rest m → IsBack table c m to → AreNull parts table to.domain ⊎ Keeps parts table c left rest below m to → (word : List ℕ) → IsWord left word
         → IsHeld parts table rest m (c ∷ word) → IsHeld parts table below to word
-    held-back c n left rest below m to less under level back keeps word of_left (inl zero) =
+    held-back c n left rest below m to less under level back (inl null) word of_left held = inl (λ y listed. (null y listed).zero word)
+    held-back c n left rest below m to less under level back (inr keeps) word of_left (inl zero) =
         inl (λ y listed. zero-child c n left m.domain word y zero (back.domain y listed))
-    held-back c n left rest below m to less under level back keeps word of_left (inr h) =
+    held-back c n left rest below m to less under level back (inr keeps) word of_left (inr h) =
         let s = one-more (rest h.rel.goal) (length left) (level.deep h.number h.rel h.here ∙ omega arith) in
         inr (by-rel c n left rest below m to less level keeps word of_left h.number h.rel h.here s.0 s.1 s.2 h.other (subst (λ sh. IsWord sh h.other) s.2 h.is_word) h.related)

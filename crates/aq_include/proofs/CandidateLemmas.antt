@@ -8,7 +8,7 @@ use Rattle.std.proofs.lemmas.List.Sorted.{IsPermutation-sym, Contains-permutatio
 use Rattle.std.proofs.lemmas.Option.{slice_get-get_or}
 use Rattle.aq_ring.specs.Fractions.{Amplitude}
 use Rattle.aq_store.specs.declared.node.Node.{Node}
-use Rattle.aq_store.specs.Count.{Count, after}
+use Rattle.aq_store.specs.Count.{Count}
 use Rattle.aq_store.proofs.TableLemmas.{slice_get-push}
 use Rattle.aq_cert.specs.declared.cert.Rel.{Rel}
 use Rattle.aq_include.specs.declared.step.Candidate.{Candidate}
@@ -34,6 +34,9 @@ module _ {X : Type 0} where
 
 pub within-refl : (r : Rel) → IsWithin r r
 within-refl r = record { same_goal = refl; pairs = λ q h. h }
+
+pub thins-all : (xs : List Candidate) → Thins xs xs
+thins-all xs = record { from = λ j x e. (j, e); covers = λ i x e. (i, x, e, within-refl x.rel); lighter = λ f. omega arith }
 
 pub thins-permutation : (xs ys : List Candidate) → IsPermutation xs ys → Thins xs ys
 thins-permutation xs ys p = record {
@@ -130,30 +133,32 @@ module _ {L : Type 0} (parts : L → List Amplitude) (table : List (Node L)) whe
 pub takes-none : (n : ℕ) (s : Count) → Takes n s s
 takes-none n s = record { later = omega arith; cheap = omega arith; same = refl }
 
-pub takes-at : (d count n : ℕ) (s m t : Count) → d < count → m ≡ after (d * n) s → Takes n m t → Takes (count * n) s t
-takes-at d count n s m t less e h =
+pub takes-at : (d count n : ℕ) (s m t : Count) → d < count → Takes (d * n) s m → Takes n m t → Takes (count * n) s t
+takes-at d count n s m t less h k =
     let more : d + 1 ≤ count = omega arith in
-    let taken : m.taken ≡ s.taken + d * n = ap (λ (x : Count). x.taken) e in
     record {
-      later = omega (arith, h.later);
-      cheap = omega (arith, h.cheap, mul-le-mul_right n more);
-      same = h.same ∙ ap (λ (x : Count). x.limit) e;
+      later = omega (arith, h.later, k.later);
+      cheap = omega (arith, h.cheap, k.cheap, mul-le-mul_right n more);
+      same = k.same ∙ h.same;
     }
 
-pub cause-at : {L : Type 0} → (d count n : ℕ) (s m : Count) (why : Stop L) → d < count → m ≡ after (d * n) s → IsCause n m why → IsCause (count * n) s why
-cause-at d count n s m stop.Spent less e h =
+pub cause-at : {L : Type 0} → (d count n : ℕ) (s m : Count) (why : Stop L) → d < count → Takes (d * n) s m → IsCause n m why → IsCause (count * n) s why
+cause-at d count n s m stop.Spent less h k =
     let more : d + 1 ≤ count = omega arith in
-    let taken : m.taken ≡ s.taken + d * n = ap (λ (x : Count). x.taken) e in
-    let limit : m.limit ≡ s.limit = ap (λ (x : Count). x.limit) e in
-    omega (arith, h, mul-le-mul_right n more)
-cause-at d count n s m (stop.Wide l r) less e h = tt
-cause-at d count n s m (stop.WideParts l r) less e h = tt
-cause-at d count n s m stop.Memory less e h = tt
+    omega (arith, h.cheap, h.same, k, mul-le-mul_right n more)
+cause-at d count n s m (stop.Wide l r) less h k = tt
+cause-at d count n s m (stop.WideParts l r) less h k = tt
+cause-at d count n s m stop.Memory less h k = tt
 
-pub after-more : (d n : ℕ) (s m t : Count) → m ≡ after (d * n) s → t ≡ after n m → t ≡ after ((d + 1) * n) s
-after-more d n s m t e f =
-    let sum : s.taken + d * n + n ≡ s.taken + (d + 1) * n = omega arith in
-    f ∙ ap (after n) e ∙ ap (λ k. same k s.limit) sum
-  where
-    same : ℕ → ℕ → Count
-    same k l = record { taken = k; limit = l }
+pub takes-on : (d n : ℕ) (s m t : Count) → Takes (d * n) s m → Takes n m t → Takes ((d + 1) * n) s t
+takes-on d n s m t h k = record { later = omega (arith, h.later, k.later); cheap = omega (arith, h.cheap, k.cheap); same = k.same ∙ h.same }
+
+-- one candidate more is paid for
+pub paid-push : (list new : List Candidate) (x : Candidate) (a m t : ℕ) → new ≡ list ++ x ∷ []
+    → sum_by (λ (y : Candidate). length y.rel.pairs) list + 2 * a ≤ 2 * m → length x.rel.pairs + 2 * m ≤ 2 * t
+    → sum_by (λ (y : Candidate). length y.rel.pairs) new + 2 * a ≤ 2 * t
+paid-push list new x a m t e h k = omega (arith, h, k, ap (sum_by (λ (y : Candidate). length y.rel.pairs)) e ∙ sum_by_push (λ (y : Candidate). length y.rel.pairs) list x)
+
+pub paid-skip : (list new : List Candidate) (a m t : ℕ) → new ≡ list → sum_by (λ (y : Candidate). length y.rel.pairs) list + 2 * a ≤ 2 * m → 0 + 2 * m ≤ 2 * t
+    → sum_by (λ (y : Candidate). length y.rel.pairs) new + 2 * a ≤ 2 * t
+paid-skip list new a m t e h k = omega (arith, h, k, ap (sum_by (λ (y : Candidate). length y.rel.pairs)) e)

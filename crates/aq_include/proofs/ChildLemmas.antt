@@ -128,6 +128,12 @@ module _ {L : Type 0} (table : List (Node L)) where
       ap₂ (λ (l : Option (ℕ × ℕ)) (r : ℕ). across l (slice_get (pairs_at table r) d) ++ opened_children_of table d os) (sym h.0.left) h.0.right
       ∙ ap (λ (l : List (ℕ × ℕ)). across (slice_get (pairs_at table p.0) c) (slice_get (pairs_at table p.1) d) ++ l) (opened-children c d ps os h.1)
 
+  -- the children of opened pairs are at most twice as many
+  pub opened-short : (d : ℕ) (os : List Opened) → length (opened_children_of table d os) ≤ 2 * length os
+  opened-short d os =
+      short-flat (λ (o : Opened). across (Some (o.first, o.second)) (slice_get (pairs_at table o.right) d))
+      (λ o. across-short (Some (o.first, o.second)) (slice_get (pairs_at table o.right) d)) os
+
   pub of-opened : (c d : ℕ) (ps qs : List (ℕ × ℕ)) (os : List Opened) → AllZip (IsOpened table c) ps os → HasSame qs (opened_children_of table d os) → length qs ≤ length (opened_children_of table d os)
       → ArePairChildren table c d ps qs
   of-opened c d ps qs os h same short = are-pair-children c d ps qs (opened_children_of table d os) (opened-children c d ps os h) same short

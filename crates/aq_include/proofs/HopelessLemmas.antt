@@ -1,20 +1,31 @@
 -- Relations that relate no words under two choices.
-use Rattle.std.proofs.Common.{◌≡◌, ℕ, ◌⊎◌, inl, inr, List, slice_get, Option, Some, Contains, refl, subst}
+use Rattle.std.proofs.Common.{◌≡◌, ℕ, ◌+◌, ◌<◌, ◌⊎◌, inl, inr, List, length, take, get_or, slice_get, Some, Contains, refl, subst}
+use Rattle.std.proofs.lemmas.List.{take_more}
+use Rattle.std.proofs.lemmas.List.Elements.{Contains-push_cases}
 use Rattle.std.specs.List.{AllZip}
 use Rattle.aq_ring.specs.Fractions.{Amplitude}
 use Rattle.aq_ring.specs.Vectors.{Proportional}
 use Rattle.aq_ring.proofs.ProportionalLaws.{proportional-keeps, proportional-equivalence}
 use Rattle.aq_store.specs.declared.node.Node.{Node}
+use Rattle.aq_store.specs.Kinds.{IsNull}
 use Rattle.aq_store.specs.Nodes.{HasShape, pairs_at}
 use Rattle.aq_store.specs.Words.{IsWord}
 use Rattle.aq_cert.specs.declared.cert.Rel.{Rel}
 use Rattle.aq_cert.specs.Meaning.{amplitudes}
 use Rattle.aq_include.specs.declared.places.Opened.{Opened}
-use Rattle.aq_include.specs.Hopeless.{AreApart, HasApart, IsHopeless}
+use Rattle.aq_include.specs.Hopeless.{AreNull, AreApart, HasApart, IsHopeless}
 use Rattle.aq_include.specs.Steps.{across, IsOpened}
 use Rattle.aq_include.proofs.ChildLemmas.{in-flat, in-across, opened-children}
 
 module _ {L : Type 0} (parts : L → List Amplitude) (table : List (Node L)) where
+  -- always zero at one place more
+  pub null-more : (xs : List ℕ) (i d : ℕ) → i < length xs → AreNull parts table (take i xs) → IsNull parts table (get_or xs i d) → AreNull parts table (take (i + 1) xs)
+  null-more xs i d less nulls one x k =
+      elim (Contains-push_cases (take i xs) (get_or xs i d) x (subst (λ (l : List ℕ). Contains l x) (take_more xs i d less) k)) [
+        | inl old ↦ nulls x old
+        | inr new ↦ subst (IsNull parts table) new one
+      ]
+
   -- the pairs of children of an opened pair
   abbrev under : ℕ → Opened → List (ℕ × ℕ)
   under d o = across (Some (o.first, o.second)) (slice_get (pairs_at table o.right) d)

@@ -15,6 +15,7 @@ use Rattle.aq_cert.specs.Held.{IsHeldBy, IsHeld}
 use Rattle.aq_cert.proofs.StepLemmas.{amplitudes-step}
 use Rattle.aq_cert.proofs.HeldLemmas.{IsBelow, edge-holds}
 use Rattle.aq_include.proofs.GoodLemmas.{root-matched}
+use Rattle.aq_include.specs.Hopeless.{AreNull}
 use Rattle.aq_include.specs.Steps.{IsBack, Keeps}
 use Rattle.aq_include.specs.Least.{IsLeast, IsWideAt, IsWholeRoot}
 use Rattle.aq_include.proofs.BackLemmas.{held-back}
@@ -31,7 +32,7 @@ module _ {L : Type 0} (parts : L → List Amplitude) (count : ℕ) (all_parts : 
       subst (λ i. IsHeld parts table rest m (i ∷ other)) (sym b.0) (edge-holds parts table c n left rest below m to from less under level e other (h.least other b.1))
 
   pub least-step : (c n : ℕ) (left : List ℕ) (rest below : ℕ → List ℕ) (m to : Macro) (from : List (ℕ × ℕ)) → c < n → IsBelow rest below
-      → IsOfLevel table (n ∷ left) rest m → IsEdge table c rest m to from → IsBack table c m to → Keeps parts table c left rest below m to
+      → IsOfLevel table (n ∷ left) rest m → IsEdge table c rest m to from → IsBack table c m to → AreNull parts table to.domain ⊎ Keeps parts table c left rest below m to
       → ((d : ℕ) (word : List ℕ) → d < c → IsHeld parts table rest m (d ∷ word)) → (word : List ℕ) → IsLeast parts table left below to word
       → IsLeast parts table (n ∷ left) rest m (c ∷ word)
   least-step c n left rest below m to from less under level e back keeps before word h = record {

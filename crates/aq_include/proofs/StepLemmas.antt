@@ -4,13 +4,13 @@ use Rattle.std.specs.Prelude.{slice_index}
 use Rattle.std.proofs.Math.Nat.{mul-le-mul_left, mul-le-mul_right}
 use Rattle.std.proofs.lemmas.List.{drop_more, drop_all, take_more, length-map, length-take-le}
 use Rattle.std.proofs.lemmas.Bool.{cases_lt}
-use Rattle.std.proofs.lemmas.List.Sums.{sum_by-cons, sum_by-append, sum_by_push, sum_by-le-sum_by, sum_by-take-le, get_or-le-sum_by}
+use Rattle.std.proofs.lemmas.List.Sums.{sum_by-cons, sum_by-append, sum_by_push, sum_by-take-le, get_or-le-sum_by}
 use Rattle.std.proofs.lemmas.Option.{slice_get-get_or, slice_get_within, get_or_from_slice_get}
 use Rattle.aq_ring.specs.Fractions.{Amplitude}
 use Rattle.aq_ring.specs.Vectors.{scaled}
 use Rattle.aq_store.specs.declared.node.Node.{Node}
 use Rattle.aq_store.specs.declared.lsta.Lsta.{Lsta}
-use Rattle.aq_store.specs.Count.{Count, after}
+use Rattle.aq_store.specs.Count.{Count}
 use Rattle.aq_store.specs.Nodes.{HasShape, pairs_at}
 use Rattle.aq_store.proofs.TableLemmas.{slice_get-push, slice_get-some}
 use Rattle.aq_cert.specs.declared.cert.Rel.{Rel}
@@ -32,8 +32,8 @@ use Rattle.aq_include.specs.Steps.{IsOnly, IsPairChild, IsOwn, pair_children_of}
 use Rattle.aq_include.proofs.ChildLemmas.{child-of, child-listed}
 use Rattle.aq_include.specs.Costs.{Takes, IsCause, rel_weight, size}
 use Rattle.aq_store.specs.Words.{words}
-use Rattle.aq_include.specs.Candidates.{Thins, AreChildren, ArePairChildren, IsCandidate, IsCandidateAt, Offers, AreOfRel, IsStepOfSome, AreOfRels, IsOwnOf, Suffice, IsStepped}
-use Rattle.aq_include.specs.Hopeless.{IsHopeless}
+use Rattle.aq_include.specs.Candidates.{Thins, AreChildren, ArePairChildren, IsCandidate, IsCandidateAt, Offers, AreOfRel, IsStepOfSome, AreOfRels, IsOwnOf, Suffice, AreEnough, IsStepped}
+use Rattle.aq_include.specs.Hopeless.{AreNull, IsHopeless}
 use Rattle.aq_include.specs.Levels.{HasLevel}
 use Rattle.aq_include.proofs.BudgetLemmas.{words-cons}
 use Rattle.aq_include.proofs.CandidateLemmas.{get-front, get-last, offers-front}
@@ -238,15 +238,12 @@ module _ {L : Type 0} (table : List (Node L)) where
       twice : (n a w s t : ℕ) → s ≤ n * (2 * (a * w)) → t ≡ a * (n * w) → s ≤ 2 * t
       twice n a w s t h e = omega arith
 
-  pub paid-more : (parts : L → List Amplitude) (c number : ℕ) (rel : Rel) (count : ℕ) (list more new : List Candidate) (start : ℕ) (m t : Count) → AreOfRel parts table c rel number count count more → new ≡ list ++ more
-      → t ≡ after (count * length rel.pairs) m → sum_by (λ (x : Candidate). length x.rel.pairs) list + 2 * start ≤ 2 * m.taken
+  pub paid-more : (list more new : List Candidate) (start : ℕ) (m t : Count) → new ≡ list ++ more
+      → sum_by (λ (x : Candidate). length x.rel.pairs) more + 2 * m.taken ≤ 2 * t.taken → sum_by (λ (x : Candidate). length x.rel.pairs) list + 2 * start ≤ 2 * m.taken
       → sum_by (λ (x : Candidate). length x.rel.pairs) new + 2 * start ≤ 2 * t.taken
-  paid-more parts c number rel count list more new start m t g e f h =
-      let l = g.light (λ _. 1) in
-      let same = sum_by-le-sum_by (λ (x : Candidate). length x.rel.pairs) (λ (x : Candidate). length x.rel.pairs * 1) more (λ x. omega arith) in
+  paid-more list more new start m t e f h =
       let both = ap (sum_by (λ (x : Candidate). length x.rel.pairs)) e ∙ sum_by-append (λ (x : Candidate). length x.rel.pairs) list more in
-      let taken : t.taken ≡ m.taken + count * length rel.pairs = ap (λ (x : Count). x.taken) f in
-      omega (arith, both, h, same, l, taken)
+      omega (arith, both, h, f)
 
   pub takes-more : (rest : ℕ → List ℕ) (xs : List Rel) (k : ℕ) (rel : Rel) (b : ℕ) (s m t : Count) → k < length xs → rel ≡ get_or xs k rel → b ≤ rel_weight rest rel
       → Takes (sum_by (rel_weight rest) (take k xs)) s m → Takes b m t → Takes (sum_by (rel_weight rest) (take (k + 1) xs)) s t
@@ -435,7 +432,19 @@ module _ {L : Type 0} (parts : L → List Amplitude) (table : List (Node L)) whe
           let t = twice (length x.rel.pairs) (length o.rel.pairs) o.choices (words o.later) k.pairs.short (omega (arith, o.choice)) in
           omega (arith, one, mine, whole, t, rel-within table rest m.rels own.number o.rel o.here)
 
-  stepped-plain : (c : ℕ) (rest below : ℕ → List ℕ) (m : Macro) (domain : List ℕ) (kept : List Candidate) → AreChildren table c m.domain domain → Suffice parts table c rest below m kept
+  -- relations that suffice are enough
+  pub enough-all : (c : ℕ) (rest below : ℕ → List ℕ) (m : Macro) (places : List ℕ) (list : List Candidate) → Suffice parts table c rest below m list → AreEnough parts table c rest below m places list
+  enough-all c rest below m places list h = record { each = h.each; keeps = λ n left k less. inr (h.keeps n left k less); light = h.light }
+
+  -- where each place is always zero, no relation is enough
+  pub enough-none : (c : ℕ) (rest below : ℕ → List ℕ) (m : Macro) (places : List ℕ) (list : List Candidate) → AreNull parts table places → list ≡ [] → AreEnough parts table c rest below m places list
+  enough-none c rest below m places list null e = subst (AreEnough parts table c rest below m places) (sym e) (record {
+    each = λ j x here. absurd (no-item j x here);
+    keeps = λ n left k less. inl null;
+    light = omega arith;
+  })
+
+  stepped-plain : (c : ℕ) (rest below : ℕ → List ℕ) (m : Macro) (domain : List ℕ) (kept : List Candidate) → AreChildren table c m.domain domain → AreEnough parts table c rest below m domain kept
       → IsStepped parts table c rest below m (record { to = record { domain = domain; rels = map (λ (x : Candidate). x.rel) kept }; from = map (λ (x : Candidate). (x.number, x.choice)) kept })
   stepped-plain c rest below m domain kept d u = record {
     edge = record {
@@ -457,15 +466,19 @@ module _ {L : Type 0} (parts : L → List Amplitude) (table : List (Node L)) whe
           let q = u.each j b.0 b.1 in
           record { number = b.0.number; rel = q.rel; choice = b.0.choice; here = q.here; is = subst (IsOnly table c q.rel b.0.choice) b.2 (only-of table c q.rel b.0.number q.choices b.0 q.is) };
     };
-    keeps = λ n left h less. record {
-      related = λ k rel e n' later word other here shape inside w v q.
-          let z = (u.keeps n left h less).related k rel e n' later word other here shape inside w v q in
-          record { number = z.number; rel = z.rel; here = z.here; other = z.other; is_word = z.is_word; related = z.related };
-    };
+    keeps = λ n left h less. elim (u.keeps n left h less) [
+      | inl null ↦ inl null
+      | inr k ↦ inr (record {
+        related = λ j rel e n' later word other here shape inside w v q.
+            let z = k.related j rel e n' later word other here shape inside w v q in
+            record { number = z.number; rel = z.rel; here = z.here; other = z.other; is_word = z.is_word; related = z.related };
+      })
+    ];
     light = omega (arith, d.short, u.light, sum-map (λ (x : Candidate). x.rel) (rel_weight below) kept);
   }
 
-  pub stepped : (c : ℕ) (rest below : ℕ → List ℕ) (m : Macro) (domain : List ℕ) (kept : List Candidate) (s : Stepped) → AreChildren table c m.domain domain → Suffice parts table c rest below m kept
+  pub stepped : (c : ℕ) (rest below : ℕ → List ℕ) (m : Macro) (domain : List ℕ) (kept : List Candidate) (s : Stepped) → AreChildren table c m.domain domain
+      → AreEnough parts table c rest below m domain kept
       → s.to.domain ≡ domain → s.to.rels ≡ map (λ (x : Candidate). x.rel) kept → s.from ≡ map (λ (x : Candidate). (x.number, x.choice)) kept
       → IsStepped parts table c rest below m s
   stepped c rest below m domain kept s d u e f h =

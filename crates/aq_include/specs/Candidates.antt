@@ -12,7 +12,7 @@ use Rattle.aq_include.specs.declared.step.Stepped.{Stepped}
 use Rattle.aq_include.specs.declared.own.Own.{Own}
 use Rattle.aq_include.specs.Steps.{IsChild, IsPairChild, IsOnly, IsOwn, IsBack, Keeps}
 use Rattle.aq_include.specs.Costs.{rel_weight, weight}
-use Rattle.aq_include.specs.Hopeless.{IsHopeless}
+use Rattle.aq_include.specs.Hopeless.{AreNull, IsHopeless}
 
 -- the relation asks for no more than the other
 pub record IsWithin (r s : Rel) : Type 0 where
@@ -86,6 +86,11 @@ module _ {L : Type 0} (table : List (Node L)) where
     pub choice : own.choice < choices
     pub same : IsOwn table c own.choice rel.pairs
 
+-- how many pairs the relation has, if there is one
+abbrev pub offer_size : Option Candidate → ℕ
+offer_size None = 0
+offer_size (Some x) = length x.rel.pairs
+
 -- the relations of candidates, with no places
 abbrev pub macro_of : List Candidate → Macro
 macro_of list = record { domain = []; rels = map (λ (x : Candidate). x.rel) list }
@@ -114,9 +119,16 @@ module _ {L : Type 0} (parts : L → List Amplitude) (table : List (Node L)) whe
     pub keeps : (n : ℕ) (left : List ℕ) → IsOfLevel table (n ∷ left) rest m → c < n → Keeps parts table c left rest below m (macro_of list)
     pub light : sum_by (λ (x : Candidate). rel_weight below x.rel) list ≤ 2 * sum_by (rel_weight rest) m.rels
 
+  -- the candidates are relations under choice c that leads to these places, and each of these is always zero, or nothing
+  -- of what the macro says is lost
+  pub record AreEnough (c : ℕ) (rest below : ℕ → List ℕ) (m : Macro) (places : List ℕ) (list : List Candidate) : Type 0 where
+    pub each : (j : ℕ) (x : Candidate) → slice_get list j ≡ Some x → IsStepOfSome table c rest m.rels x
+    pub keeps : (n : ℕ) (left : List ℕ) → IsOfLevel table (n ∷ left) rest m → c < n → AreNull parts table places ⊎ Keeps parts table c left rest below m (macro_of list)
+    pub light : sum_by (λ (x : Candidate). rel_weight below x.rel) list ≤ 2 * sum_by (rel_weight rest) m.rels
+
   -- the macro under a choice, and where its relations come from
   pub record IsStepped (c : ℕ) (rest below : ℕ → List ℕ) (m : Macro) (s : Stepped) : Type 0 where
     pub edge : IsEdge table c rest m s.to s.from
     pub back : IsBack table c m s.to
-    pub keeps : (n : ℕ) (left : List ℕ) → IsOfLevel table (n ∷ left) rest m → c < n → Keeps parts table c left rest below m s.to
+    pub keeps : (n : ℕ) (left : List ℕ) → IsOfLevel table (n ∷ left) rest m → c < n → AreNull parts table s.to.domain ⊎ Keeps parts table c left rest below m s.to
     pub light : weight below s.to ≤ 2 * weight rest m

@@ -1,4 +1,4 @@
--- Relations that relate no words under two choices.
+-- Relations that relate no words under two choices, and places of which no word has a vector that isn't zero.
 use Rattle.std.specs.Prelude.{◌⊎◌, ℕ, List, Contains}
 use Rattle.aq_ring.specs.Fractions.{Amplitude}
 use Rattle.aq_store.specs.declared.node.Node.{Node}
@@ -11,6 +11,10 @@ use Rattle.aq_include.specs.declared.places.Opened.{Opened}
 use Rattle.aq_include.specs.Steps.{opened_children_of, pair_children_of}
 
 module _ {L : Type 0} (parts : L → List Amplitude) (table : List (Node L)) where
+  -- each place is always zero
+  abbrev pub AreNull : List ℕ → Type 0
+  AreNull places = (x : ℕ) → Contains places x → IsNull parts table x
+
   -- one of two nodes is always zero, and the other never
   abbrev pub AreApart : ℕ → ℕ → Type 0
   AreApart x y = (IsNull parts table x × IsNeverZero parts table y) ⊎ (IsNeverZero parts table x × IsNull parts table y)

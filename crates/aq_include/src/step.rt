@@ -13,9 +13,9 @@ ghost use Rattle.aq_include.specs.declared.places.Opened.{Opened};
 ghost use Rattle.aq_include.specs.Members.{HasSame};
 ghost use Rattle.aq_include.specs.Steps.{opened_children_of, IsOpened};
 ghost use Rattle.aq_include.specs.Candidates.{AreChildren, IsCandidateAt, AreOfRel, AreOfRels, HasRel, IsStepped};
-ghost use Rattle.aq_include.specs.Candidates.{IsOffer, Thins, IsOwnOf, Suffice};
+ghost use Rattle.aq_include.specs.Candidates.{IsOffer, offer_size, Thins, IsOwnOf, Suffice, AreEnough};
 
-use crate::hopeless::is_hopeless;
+use crate::hopeless::{are_null, count_to_apart};
 use crate::own::{Own, find_own};
 use crate::pay::pay;
 use crate::places::{
@@ -102,6 +102,7 @@ fn step_choice<L: Label>(
     requires count { length opened.now ≡ length rel.now.pairs }
     ensures candidate { IfOk result (λ x. (c : ℕ) → AllZip (IsOpened store.now c) rel.now.pairs opened.now →
         IsCandidateAt store.now c rel.now number choice x) }
+    ensures short { IfOk result (λ x. length x.rel.pairs ≤ 2 * length rel.now.pairs) }
     ensures paid { OnOk result (steps.new ≡ after (length rel.now.pairs) steps.old) }
     ensures wide { IfErr result IsNotWide }
     ensures takes { Takes (length rel.now.pairs) steps.old steps.new }
@@ -118,8 +119,8 @@ fn step_choice<L: Label>(
     })
 }
 
-/// A relation under a choice of the left and one of its goal; none where it would relate no words. Its pairs are
-/// counted all the same.
+/// A relation under a choice of the left and one of its goal; none where it would relate no words, and then its pairs
+/// are counted only up to the first that shows it.
 fn step_offer<L: Label>(
     store: &Store<L>,
     alloc: Global,
@@ -133,13 +134,13 @@ fn step_offer<L: Label>(
     requires count { length opened.now ≡ length rel.now.pairs }
     ensures offer { IfOk result (λ found. (c : ℕ) → AllZip (IsOpened store.now c) rel.now.pairs opened.now →
         IsOffer L.parts store.now c rel.now number choice found) }
-    ensures paid { OnOk result (steps.new ≡ after (length rel.now.pairs) steps.old) }
+    ensures paid { IfOk result (λ found. offer_size found + 2 * steps.old.taken ≤ 2 * steps.new.taken) }
     ensures wide { IfErr result IsNotWide }
     ensures takes { Takes (length rel.now.pairs) steps.old steps.new }
     ensures spent { IfErr result (λ e. IsCause (length rel.now.pairs) steps.old e) }
 {
-    if is_hopeless(store, opened, choice) {
-        pay::<L>(steps, opened.len())?;
+    if let Some(count) = count_to_apart(store, opened, choice) {
+        pay::<L>(steps, count)?;
         return Ok(None);
     }
     let found = step_choice(store, alloc, rel, opened, number, choice, steps)?;
@@ -160,7 +161,8 @@ fn step_rel<L: Label>(
         length (pairs_at store.now p.1)) }
     ensures candidates { IfOk result (λ list. AreOfRel L.parts store.now choice rel.now number count count
         list.items) }
-    ensures paid { OnOk result (steps.new ≡ after (count * length rel.now.pairs) steps.old) }
+    ensures paid { IfOk result (λ list. sum_by (λ x. length x.rel.pairs) list.items + 2 * steps.old.taken ≤ 2 *
+        steps.new.taken) }
     ensures wide { IfErr result IsNotWide }
     ensures takes { Takes (count * length rel.now.pairs) steps.old steps.new }
     ensures spent { IfErr result (λ e. IsCause (count * length rel.now.pairs) steps.old e) }
@@ -314,6 +316,9 @@ fn is_repeat(kept: &[Candidate], candidate: &Candidate) -> bool
 fn thin(alloc: Global, list: Vec<Candidate>) -> Result<Vec<Candidate>, AllocError>
     ensures { IfOk result (λ kept. Thins list.items kept.items) }
 {
+    if list.len() < 2 {
+        return Ok(list);
+    }
     let mut kept = Vec::new(alloc);
     for candidate in sorted(list) {
         if !is_repeat(kept.as_slice(), &candidate) {
@@ -355,6 +360,35 @@ fn step_each<L: Label>(
     Ok(kept)
 }
 
+/// The relations under a choice that leads to these places; none where each of them is always zero, for then every
+/// word is held without one.
+fn step_needed<L: Label>(
+    store: &Store<L>,
+    alloc: Global,
+    here: &Macro,
+    goals: &[Lsta],
+    level: u32,
+    choice: u32,
+    places: &[u32],
+    steps: &mut Steps,
+) -> Result<Vec<Candidate>, Stop<L>>
+    requires here { (left : List ℕ) × IsOfLevel store.now left (goal_rest goals.now level) here.now × (choice <
+        slice_index left 0) }
+    ensures enough { IfOk result (λ list. AreEnough L.parts store.now choice (goal_rest goals.now level) (goal_rest
+        goals.now (level + 1)) here.now places.now list.items) }
+    ensures paid { IfOk result (λ list. sum_by (λ x. length x.rel.pairs) list.items + 2 * steps.old.taken ≤ 2 *
+        steps.new.taken) }
+    ensures wide { IfErr result IsNotWide }
+    ensures takes { Takes (sum_by (rel_weight (goal_rest goals.now level)) here.now.rels) steps.old steps.new }
+    ensures spent { IfErr result (λ e. IsCause (sum_by (rel_weight (goal_rest goals.now level)) here.now.rels) steps.old
+        e) }
+{
+    if are_null(store, places) {
+        return Ok(Vec::new(alloc));
+    }
+    step_each(store, alloc, here, goals, level, choice, steps)
+}
+
 /// The macro of these relations.
 fn gather(alloc: Global, domain: Items<u32>, list: Vec<Candidate>) -> Result<Stepped, AllocError>
     ensures domain { IfOk result (λ s. s.to.domain ≡ domain) }
@@ -394,7 +428,8 @@ pub(crate) fn step<L: Label>(
 {
     let _taken = steps.taken();
     let domain = step_domain(store, alloc, here.domain.as_slice(), choice, steps)?;
-    let list = step_each(store, alloc, here, goals, level, choice, steps)?;
+    let places = domain.as_slice();
+    let list = step_needed(store, alloc, here, goals, level, choice, places, steps)?;
     let Ok(stepped) = gather(alloc, domain, list) else {
         return Err(Stop::Memory);
     };

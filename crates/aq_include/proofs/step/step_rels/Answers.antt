@@ -52,8 +52,8 @@ loop-number-preserved g c =
           c.loop-number.list.items c.in_ok-more.more.items c.append.new.self.items c.loop-number-test.true c.index-rels-number.is (grind (arith, c.in-Ok.ensures)) r c.loop-number.invariant.candidates c.in_ok-more.ensures.candidates c.in-Ok-append.ensures.items;
       light = light-more c.args.store.now g.L.Label.parts c.args.goals.now c.args.level c.args.choice c.as_slice-rels.result.now c.loop-number.number c.in-Ok.short c.index-rels-number.result c.goal_choices-count.result
           c.loop-number.list.items c.in_ok-more.more.items c.append.new.self.items c.loop-number-test.true c.index-rels-number.is r c.in_ok-more.ensures.candidates c.in-Ok-append.ensures.items c.loop-number.invariant.light;
-      paid = paid-more c.args.store.now g.L.Label.parts c.args.choice c.in-Ok.short c.index-rels-number.result c.goal_choices-count.result c.loop-number.list.items c.in_ok-more.more.items c.append.new.self.items c.args.steps.now.taken
-          c.loop-number.steps c.step_rel.new.steps c.in_ok-more.ensures.candidates c.in-Ok-append.ensures.items c.in_ok-more.ensures.paid c.loop-number.invariant.paid;
+      paid = paid-more c.args.store.now c.loop-number.list.items c.in_ok-more.more.items c.append.new.self.items c.args.steps.now.taken
+          c.loop-number.steps c.step_rel.new.steps c.in-Ok-append.ensures.items c.in_ok-more.ensures.paid c.loop-number.invariant.paid;
       takes = takes-more c.args.store.now (goal_rest c.args.goals.now c.args.level) c.as_slice-rels.result.now c.loop-number.number c.index-rels-number.result _ c.args.steps.now c.loop-number.steps c.step_rel.new.steps
           c.loop-number-test.true c.index-rels-number.is r.cheap c.loop-number.invariant.takes c.step_rel.ensures.takes;
     }
