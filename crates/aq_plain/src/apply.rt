@@ -1,9 +1,24 @@
 //! A gate on a vector, in place.
-ghost use Rattle.std.specs.Prelude.{◌≡◌, ◌≤◌, ◌<◌, ◌^◌, ◌+◌, length, OnOk, OnErr, IfErr, MatchOption, slice_set};
+ghost use Rattle.std.specs.Prelude.{
+  ◌≡◌,
+  ◌⊎◌,
+  ◌≤◌,
+  ◌<◌,
+  ◌^◌,
+  ◌+◌,
+  length,
+  true,
+  Contains,
+  OnOk,
+  OnErr,
+  IfErr,
+  MatchOption,
+  slice_set,
+};
 ghost use Rattle.std.specs.Bool.{OnTrue};
 ghost use Rattle.std.specs.List.{All};
-ghost use Rattle.aq_prog.specs.Digits.{amplitude_at, weight};
-ghost use Rattle.aq_prog.specs.Gates.{apply_gate, entry_at, FitsGate, FitsGateAt, AreEntries, IsValidGate};
+ghost use Rattle.aq_prog.specs.Digits.{amplitude_at, digit, weight};
+ghost use Rattle.aq_prog.specs.Gates.{apply_gate, entry_at, is_controlled, FitsGate, FitsGateAt, AreEntries, IsValidGate};
 ghost use Rattle.aq_plain.specs.Small.{IsSmallAmplitude};
 ghost use Rattle.aq_plain.specs.Vectors.{IsStateVector};
 ghost use Rattle.aq_plain.specs.Wide.{
@@ -18,7 +33,7 @@ ghost use Rattle.aq_plain.specs.Wide.{
 };
 
 use crate::near::are_near;
-use crate::places::{digit_of, has_controls, weight_of};
+use crate::places::{digit_of, has_controls, next_change, weight_of};
 use crate::row::{WideSum, always_fits, fitting_sum, row_sum};
 use crate::small::are_small;
 use crate::vector::Vector;
@@ -122,6 +137,27 @@ fn new_entry(amps: &[Amp], qubits: u32, gate: &Gate, index: usize) -> Result<Amp
     row_sum(row[0], row[1], amps[low], amps[low + weight])
 }
 
+/// A qubit whose digit tells that the index is the first of no pair which the gate changes, if there is one: the target
+/// with digit 1, or a control with digit 0.
+#[inline]
+fn hindrance(index: usize, qubits: u32, gate: &Gate) -> Option<u32>
+    requires few { qubits ≤ 16 }
+    requires valid { IsValidGate qubits gate.now }
+    ensures { MatchOption result ((digit qubits gate.now.target index ≡ 0) × (is_controlled qubits gate.now.controls
+        index ≡ true)) (λ q. ((q ≡ gate.now.target) × (digit qubits q index ≡ 1)) ⊎ (Contains gate.now.controls q ×
+        (digit qubits q index ≡ 0))) }
+{
+    if digit_of(index, qubits, gate.target) != 0 {
+        return Some(gate.target);
+    }
+    for control in gate.controls.as_slice() {
+        if digit_of(index, qubits, *control) == 0 {
+            return Some(*control);
+        }
+    }
+    None
+}
+
 /// Writes the new amplitudes pair by pair, where all of them fit. `small`: all of the old ones are.
 pub(crate) fn write_gate(amps: &mut [Amp], qubits: u32, gate: &Gate, small: bool)
     requires valid { IsValidGate qubits gate.now }
@@ -131,10 +167,14 @@ pub(crate) fn write_gate(amps: &mut [Amp], qubits: u32, gate: &Gate, small: bool
     ensures { amps.new ≡ apply_gate qubits gate.now amps.old }
 {
     let weight = weight_of(qubits, gate.target);
-    let controls = gate.controls.as_slice();
-    for index in 0..amps.len() {
-        if digit_of(index, qubits, gate.target) == 0 && has_controls(index, qubits, controls) {
-            write_pair(amps, gate, index, weight, small);
+    let mut index = 0;
+    while index < amps.len() {
+        match hindrance(index, qubits, gate) {
+            Some(qubit) => index = next_change(index, qubits, qubit),
+            None => {
+                write_pair(amps, gate, index, weight, small);
+                index += 1;
+            }
         }
     }
 }
