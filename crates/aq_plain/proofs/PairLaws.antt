@@ -9,8 +9,9 @@ use Rattle.std.specs.List.{All}
 use Rattle.std.specs.Bool.{OnTrue}
 use Rattle.std.proofs.lemmas.List.{set-get_or, get_or-set_same, get_or-set_other, length-set, ext_get_or, get_or_read}
 use Rattle.aq_ring.specs.Fractions.{Amplitude}
-use Rattle.aq_ring.specs.Amplitudes.{amplitude_zero, sum}
-use Rattle.aq_ring.proofs.AmplitudeLaws.{sum-zero, sum_comm}
+use Rattle.aq_ring.specs.Amplitudes.{amplitude_zero, sum, turn}
+use Rattle.aq_ring.specs.Quads.{turned_by}
+use Rattle.aq_ring.proofs.AmplitudeLaws.{sum-zero, sum_comm, lowest_form-own}
 use Rattle.aq_prog.specs.Digits.{weight, digit, with_digit, amplitude_at}
 use Rattle.aq_prog.specs.Gates.{term, term_at, entry_at, is_controlled, gate_entry, apply_gate, IsValidGate, FitsGate, FitsGateAt, IsEntry}
 use Rattle.aq_prog.specs.declared.gate.Entry.{Entry}
@@ -329,3 +330,14 @@ zeros_stay gate v x w a b =
     ap (set v x) (row_of_zeros gate 0 _ _ a b ∙ sym a) ∙ set-get_or v x amplitude_zero in
     sym (ap (λ u. set u (x + w) (row_of gate 1 (amplitude_at v x) (amplitude_at v (x + w)))) first
     ∙ ap (set v (x + w)) (row_of_zeros gate 1 _ _ a b ∙ sym b) ∙ set-get_or v (x + w) amplitude_zero)
+
+-- ---- an amplitude as it is
+turn_none : (p : Amplitude) → turn 0 p ≡ p
+unfolding turn turned_by
+turn_none p = lowest_form-own p
+
+pub left_alone : (e f : Entry) (p q : Amplitude) → e ≡ entry.Unit 0 0 → f ≡ entry.Zero → sum (term e p) (term f q) ≡ p
+left_alone e f p q a b = (λ i. sum (term (a i) p) (term (b i) q)) ∙ sum_comm (turn 0 p) amplitude_zero ∙ sum-zero (turn 0 p) ∙ turn_none p
+
+pub right_alone : (e f : Entry) (p q : Amplitude) → e ≡ entry.Zero → f ≡ entry.Unit 0 0 → sum (term e p) (term f q) ≡ q
+right_alone e f p q a b = (λ i. sum (term (a i) p) (term (b i) q)) ∙ sum-zero (turn 0 q) ∙ turn_none q

@@ -17,6 +17,7 @@ ghost use Rattle.std.specs.Prelude.{
 };
 ghost use Rattle.std.specs.Bool.{OnTrue};
 ghost use Rattle.std.specs.List.{All};
+ghost use Rattle.aq_ring.specs.Fractions.{Amplitude};
 ghost use Rattle.aq_prog.specs.Digits.{amplitude_at, digit, weight};
 ghost use Rattle.aq_prog.specs.Gates.{apply_gate, entry_at, is_controlled, FitsGate, FitsGateAt, AreEntries, IsValidGate};
 ghost use Rattle.aq_plain.specs.Small.{IsSmallAmplitude};
@@ -34,7 +35,7 @@ ghost use Rattle.aq_plain.specs.Wide.{
 
 use crate::near::are_near;
 use crate::places::{digit_of, has_controls, next_change, weight_of};
-use crate::row::{WideSum, always_fits, fitting_sum, row_sum};
+use crate::row::{WideSum, always_fits, fitting_sum, gives_left, gives_right, row_sum};
 use crate::small::are_small;
 use crate::vector::Vector;
 use aq_prog::Gate;
@@ -179,6 +180,16 @@ pub(crate) fn write_gate(amps: &mut [Amp], qubits: u32, gate: &Gate, small: bool
     }
 }
 
+/// Whether it is plain from the gate alone that it puts the amplitudes of a pair in each other's place.
+#[inline]
+fn exchanges(gate: &Gate) -> bool
+    ensures top { OnTrue result ((p q : Amplitude) → row_of gate.now 0 p q ≡ q) }
+    ensures bottom { OnTrue result ((p q : Amplitude) → row_of gate.now 1 p q ≡ p) }
+{
+    gives_right(gate.matrix.rows[0][0], gate.matrix.rows[0][1])
+        && gives_left(gate.matrix.rows[1][0], gate.matrix.rows[1][1])
+}
+
 /// Writes the two new amplitudes at the index and so far behind it. Two zeros stay. `small`: the old ones are.
 #[inline]
 fn write_pair(amps: &mut [Amp], gate: &Gate, low: usize, weight: usize, small: bool)
@@ -193,6 +204,10 @@ fn write_pair(amps: &mut [Amp], gate: &Gate, low: usize, weight: usize, small: b
         (amplitude_at amps.old (low + weight))))
         (low + weight) (row_of gate.now 1 (amplitude_at amps.old low) (amplitude_at amps.old (low + weight))) }
 {
+    if exchanges(gate) {
+        amps.swap(low, low + weight);
+        return;
+    }
     if amps[low].is_zero() && amps[low + weight].is_zero() {
         return;
     }
@@ -215,6 +230,8 @@ fn write_rows(amps: &mut [Amp], gate: &Gate, low: usize, weight: usize, small: b
 {
     let (left, right) = (amps[low], amps[low + weight]);
     let rows = gate.matrix.rows;
-    amps[low] = fitting_sum(rows[0][0], rows[0][1], left, right, small);
+    if !gives_left(rows[0][0], rows[0][1]) {
+        amps[low] = fitting_sum(rows[0][0], rows[0][1], left, right, small);
+    }
     amps[low + weight] = fitting_sum(rows[1][0], rows[1][1], left, right, small);
 }
