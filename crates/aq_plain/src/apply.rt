@@ -190,6 +190,14 @@ fn exchanges(gate: &Gate) -> bool
         && gives_left(gate.matrix.rows[1][0], gate.matrix.rows[1][1])
 }
 
+/// Whether it is plain from the gate alone that it keeps the first amplitude of a pair.
+#[inline]
+fn keeps_first(gate: &Gate) -> bool
+    ensures { OnTrue result ((p q : Amplitude) → row_of gate.now 0 p q ≡ p) }
+{
+    gives_left(gate.matrix.rows[0][0], gate.matrix.rows[0][1])
+}
+
 /// Writes the two new amplitudes at the index and so far behind it. Two zeros stay. `small`: the old ones are.
 #[inline]
 fn write_pair(amps: &mut [Amp], gate: &Gate, low: usize, weight: usize, small: bool)
@@ -211,7 +219,26 @@ fn write_pair(amps: &mut [Amp], gate: &Gate, low: usize, weight: usize, small: b
     if amps[low].is_zero() && amps[low + weight].is_zero() {
         return;
     }
+    if keeps_first(gate) {
+        write_second(amps, gate, low, weight, small);
+        return;
+    }
     write_rows(amps, gate, low, weight, small);
+}
+
+/// Writes the second row of the two amplitudes.
+#[inline(never)]
+fn write_second(amps: &mut [Amp], gate: &Gate, low: usize, weight: usize, small: bool)
+    requires entries { AreEntries gate.now.matrix.rows }
+    requires within { low + weight < length amps.old }
+    requires bottom { FitsRowOf gate.now 1 (amplitude_at amps.old low) (amplitude_at amps.old (low + weight)) }
+    requires small_low { OnTrue small (IsSmallAmplitude (amplitude_at amps.old low)) }
+    requires small_high { OnTrue small (IsSmallAmplitude (amplitude_at amps.old (low + weight))) }
+    ensures { amps.new ≡ slice_set amps.old (low + weight) (row_of gate.now 1 (amplitude_at amps.old low)
+        (amplitude_at amps.old (low + weight))) }
+{
+    let row = gate.matrix.rows[1];
+    amps[low + weight] = fitting_sum(row[0], row[1], amps[low], amps[low + weight], small);
 }
 
 /// Writes both rows of the two amplitudes.
@@ -230,8 +257,6 @@ fn write_rows(amps: &mut [Amp], gate: &Gate, low: usize, weight: usize, small: b
 {
     let (left, right) = (amps[low], amps[low + weight]);
     let rows = gate.matrix.rows;
-    if !gives_left(rows[0][0], rows[0][1]) {
-        amps[low] = fitting_sum(rows[0][0], rows[0][1], left, right, small);
-    }
+    amps[low] = fitting_sum(rows[0][0], rows[0][1], left, right, small);
     amps[low + weight] = fitting_sum(rows[1][0], rows[1][1], left, right, small);
 }

@@ -116,6 +116,9 @@ pub(crate) fn fitting_sum(first: Entry, second: Entry, left: Amp, right: Amp, sm
     requires small_right { OnTrue small (IsSmallAmplitude right) }
     ensures { result ≡ sum (term first left) (term second right) }
 {
+    if small {
+        return small_sum(first, second, left, right);
+    }
     if second == Entry::Zero
         && let Some(amp) = lone_term(first, left)
     {
@@ -125,9 +128,6 @@ pub(crate) fn fitting_sum(first: Entry, second: Entry, left: Amp, right: Amp, sm
         && let Some(amp) = lone_term(second, right)
     {
         return amp;
-    }
-    if small {
-        return small_sum(first, second, left, right);
     }
     any_sum(first, second, left, right)
 }
