@@ -1,12 +1,17 @@
 -- A gate played in place, pair by pair.
-use Rattle.std.proofs.Common.{◌≡◌, ◌≢◌, ℕ, ◌+◌, ◌-◌, ◌*◌, ◌^◌, ◌<◌, ◌≤◌, Bool, true, false, cond, List, Result, length, get_or, set, refl, sym, ap, ◌∙◌, subst, ⊎_elim, arith}
-use Rattle.std.proofs.lemmas.Bool.{cases_eq}
+use Rattle.std.proofs.Common.{◌≡◌, ◌≢◌, ◌⊎◌, ℕ, ◌+◌, ◌-◌, ◌*◌, ◌/◌, ◌%◌, ◌^◌, ◌<◌, ◌≤◌, Bool, true, false, cond, List, Result, length, get_or, set, refl, sym, ap, ◌∙◌, subst, ⊎_elim, arith}
+use Rattle.std.proofs.Math.Nat.{div-mul-le_self, lt-div-mul-add}
+use Rattle.std.proofs.lemmas.Bool.{cases_eq, cases_lt}
+use Rattle.std.proofs.lemmas.Nat.{div-mul-add}
+use Rattle.std.proofs.lemmas.List.Folds.{list_all_at}
+use Rattle.std.specs.Prelude.{◌==◌, Contains}
 use Rattle.std.specs.List.{All}
 use Rattle.std.specs.Bool.{OnTrue}
 use Rattle.std.proofs.lemmas.List.{set-get_or, get_or-set_same, get_or-set_other, length-set, ext_get_or, get_or_read}
 use Rattle.aq_ring.specs.Fractions.{Amplitude}
-use Rattle.aq_ring.specs.Amplitudes.{amplitude_zero, sum}
-use Rattle.aq_ring.proofs.AmplitudeLaws.{sum-zero, sum_comm}
+use Rattle.aq_ring.specs.Amplitudes.{amplitude_zero, sum, turn}
+use Rattle.aq_ring.specs.Quads.{turned_by}
+use Rattle.aq_ring.proofs.AmplitudeLaws.{sum-zero, sum_comm, lowest_form-own}
 use Rattle.aq_prog.specs.Digits.{weight, digit, with_digit, amplitude_at}
 use Rattle.aq_prog.specs.Gates.{term, term_at, entry_at, is_controlled, gate_entry, apply_gate, IsValidGate, FitsGate, FitsGateAt, IsEntry}
 use Rattle.aq_prog.specs.declared.gate.Entry.{Entry}
@@ -80,17 +85,8 @@ pub record IsPartly (n : ℕ) (gate : Gate) (old new : List Amplitude) (x : ℕ)
 pub IsPartly-none : (n : ℕ) (gate : Gate) (v : List Amplitude) → IsPartly n gate v v 0
 IsPartly-none n gate v = record { size = refl; done = λ k h lt. absurd (omega arith); left = λ k h. refl }
 
--- an index with digit 1 is the first of no pair
-pub IsPartly-second : (n : ℕ) (gate : Gate) (old new : List Amplitude) (x : ℕ) → digit n gate.target x ≢ 0 → IsPartly n gate old new x → IsPartly n gate old new (x + 1)
-IsPartly-second n gate old new x one h = record {
-  size = h.size;
-  done = λ k lt less. ⊎_elim (λ (same : with_digit n gate.target 0 k ≡ x). absurd (one (ap (digit n gate.target) (sym same) ∙ digit-with_digit n gate.target 0 k (omega arith))))
-      (λ other. h.done k lt (omega arith)) (cases_eq (with_digit n gate.target 0 k) x);
-  left = λ k less. h.left k (omega arith);
-}
-
 -- the whole
-pub IsPartly-all : (n : ℕ) (gate : Gate) (old new : List Amplitude) (x : ℕ) → x ≡ length old → IsPartly n gate old new x → new ≡ apply_gate n gate old
+pub IsPartly-all : (n : ℕ) (gate : Gate) (old new : List Amplitude) (x : ℕ) → length old ≤ x → IsPartly n gate old new x → new ≡ apply_gate n gate old
 unfolding apply_gate
 IsPartly-all n gate old new x e h = ext_get_or amplitude_zero new _ (h.size ∙ sym (length-tabulate (length old) (gate_entry n gate old)))
     (λ k lt. let less : k < length old = rw h.size at lt in h.done k less (omega arith) ∙ sym (get_or-tabulate (length old) (gate_entry n gate old) amplitude_zero k less))
@@ -154,19 +150,44 @@ bottom_fits n gate old new x valid size h fits first c part =
     (paired_low n gate old new x k first part pair) (paired_high n gate old new x k first part pair)
     (fits.at k (second_below n gate.target x (length old) valid.target size h first))
 
--- a pair without its controls stays
-pub IsPartly-stays : (n : ℕ) (gate : Gate) (old new : List Amplitude) (x : ℕ) → IsValidGate n gate → digit n gate.target x ≡ 0
-    → is_controlled n gate.controls x ≡ false → IsPartly n gate old new x → IsPartly n gate old new (x + 1)
-IsPartly-stays n gate old new x valid first c h = record {
+-- a digit stays up to the next multiple of its weight
+digit_stays : (n q x z : ℕ) → x ≤ z → z < (x / weight n q + 1) * weight n q → digit n q z ≡ digit n q x
+digit_stays n q x z le lt =
+    let m = x / weight n q in
+    let least = div-mul-le_self x (weight n q) in
+    let e : z ≡ m * weight n q + (z - m * weight n q) = omega arith in
+    ap (λ j. j % 2) (ap (λ j. j / weight n q) e ∙ div-mul-add m (weight n q) (z - m * weight n q) (omega arith))
+
+-- a control has digit 0 where the pair of k begins
+uncontrolled : (n : ℕ) (gate : Gate) (k q : ℕ) → IsValidGate n gate → Contains gate.controls q → digit n q (with_digit n gate.target 0 k) ≡ 0
+    → is_controlled n gate.controls k ≡ false
+uncontrolled n gate k q valid control none =
+    let first = with_digit n gate.target 0 k in
+    sym (controlled-other n gate.target 0 k gate.controls valid.target (omega arith) valid.controls)
+    ∙ list_all_at (λ j. digit n j first == 1) gate.controls control.0 q control.1 (ap (λ j. digit n j first == 1) control.2 ∙ ap (λ d. d == 1) none)
+
+-- a digit of q at x for which no pair that begins there is changed
+abbrev pub Hinders : ℕ → Gate → ℕ → ℕ → Type 0
+Hinders n gate x q = ((q ≡ gate.target) × (digit n q x ≡ 1)) ⊎ (Contains gate.controls q × (digit n q x ≡ 0))
+
+-- so the pairs stay that begin from x on where this digit stays
+pub IsPartly-skip : (n : ℕ) (gate : Gate) (old new : List Amplitude) (x q y : ℕ) → IsValidGate n gate → Hinders n gate x q
+    → y ≡ (x / weight n q + 1) * weight n q → IsPartly n gate old new x → IsPartly n gate old new y
+IsPartly-skip n gate old new x q y valid why e h = record {
   size = h.size;
-  done = λ k lt less. ⊎_elim (here k) (λ other. h.done k lt (omega arith)) (cases_eq (with_digit n gate.target 0 k) x);
-  left = λ k less. h.left k (omega arith);
+  done = λ k lt less. ⊎_elim (λ before. h.done k lt before) (here k less) (cases_lt (with_digit n gate.target 0 k) x);
+  left = λ k less. h.left k (let b = lt-div-mul-add {a = x} {b = weight n q} (weight-positive n q) in omega arith);
 }
   where
-    here : (k : ℕ) → with_digit n gate.target 0 k ≡ x → amplitude_at new k ≡ gate_entry n gate old k
-    here k same =
-        let e = sym (pair_control n gate x k valid (pair_of n gate.target x k first same)) ∙ c in
-        h.left k (omega arith) ∙ sym (ap (λ t. cond t (sum (term_at n gate old k 0) (term_at n gate old k 1)) (amplitude_at old k)) e)
+    here : (k : ℕ) → with_digit n gate.target 0 k < y → x ≤ with_digit n gate.target 0 k → amplitude_at new k ≡ gate_entry n gate old k
+    here k less from =
+        let first = with_digit n gate.target 0 k in
+        let stays : digit n q first ≡ digit n q x = digit_stays n q x first from (rw e at less) in
+        let is_first : digit n gate.target first ≡ 0 = digit-with_digit n gate.target 0 k (omega arith) in
+        ⊎_elim
+        (λ target. absurd (let z : digit n q first ≡ 0 = ap (λ j. digit n j first) target.0 ∙ is_first in let o = target.1 in omega arith))
+        (λ control. h.left k from ∙ sym (ap (λ t. cond t (sum (term_at n gate old k 0) (term_at n gate old k 1)) (amplitude_at old k)) (uncontrolled n gate k q valid control.0 (stays ∙ control.1))))
+        why
 
 sets-other : (v : List Amplitude) (i j k : ℕ) (a b : Amplitude) → k ≢ i → k ≢ j → amplitude_at (set (set v i a) j b) k ≡ amplitude_at v k
 sets-other v i j k a b p q = get_or-set_other (set v i a) j k b amplitude_zero q ∙ get_or-set_other v i k a amplitude_zero p
@@ -309,3 +330,14 @@ zeros_stay gate v x w a b =
     ap (set v x) (row_of_zeros gate 0 _ _ a b ∙ sym a) ∙ set-get_or v x amplitude_zero in
     sym (ap (λ u. set u (x + w) (row_of gate 1 (amplitude_at v x) (amplitude_at v (x + w)))) first
     ∙ ap (set v (x + w)) (row_of_zeros gate 1 _ _ a b ∙ sym b) ∙ set-get_or v (x + w) amplitude_zero)
+
+-- ---- an amplitude as it is
+turn_none : (p : Amplitude) → turn 0 p ≡ p
+unfolding turn turned_by
+turn_none p = lowest_form-own p
+
+pub left_alone : (e f : Entry) (p q : Amplitude) → e ≡ entry.Unit 0 0 → f ≡ entry.Zero → sum (term e p) (term f q) ≡ p
+left_alone e f p q a b = (λ i. sum (term (a i) p) (term (b i) q)) ∙ sum_comm (turn 0 p) amplitude_zero ∙ sum-zero (turn 0 p) ∙ turn_none p
+
+pub right_alone : (e f : Entry) (p q : Amplitude) → e ≡ entry.Zero → f ≡ entry.Unit 0 0 → sum (term e p) (term f q) ≡ q
+right_alone e f p q a b = (λ i. sum (term (a i) p) (term (b i) q)) ∙ sum-zero (turn 0 q) ∙ turn_none q

@@ -1,9 +1,25 @@
 //! A gate on a vector, in place.
-ghost use Rattle.std.specs.Prelude.{◌≡◌, ◌≤◌, ◌<◌, ◌^◌, ◌+◌, length, OnOk, OnErr, IfErr, MatchOption, slice_set};
+ghost use Rattle.std.specs.Prelude.{
+  ◌≡◌,
+  ◌⊎◌,
+  ◌≤◌,
+  ◌<◌,
+  ◌^◌,
+  ◌+◌,
+  length,
+  true,
+  Contains,
+  OnOk,
+  OnErr,
+  IfErr,
+  MatchOption,
+  slice_set,
+};
 ghost use Rattle.std.specs.Bool.{OnTrue};
 ghost use Rattle.std.specs.List.{All};
-ghost use Rattle.aq_prog.specs.Digits.{amplitude_at, weight};
-ghost use Rattle.aq_prog.specs.Gates.{apply_gate, entry_at, FitsGate, FitsGateAt, AreEntries, IsValidGate};
+ghost use Rattle.aq_ring.specs.Fractions.{Amplitude};
+ghost use Rattle.aq_prog.specs.Digits.{amplitude_at, digit, weight};
+ghost use Rattle.aq_prog.specs.Gates.{apply_gate, entry_at, is_controlled, FitsGate, FitsGateAt, AreEntries, IsValidGate};
 ghost use Rattle.aq_plain.specs.Small.{IsSmallAmplitude};
 ghost use Rattle.aq_plain.specs.Vectors.{IsStateVector};
 ghost use Rattle.aq_plain.specs.Wide.{
@@ -18,8 +34,8 @@ ghost use Rattle.aq_plain.specs.Wide.{
 };
 
 use crate::near::are_near;
-use crate::places::{digit_of, has_controls, weight_of};
-use crate::row::{WideSum, always_fits, fitting_sum, row_sum};
+use crate::places::{digit_of, has_controls, next_change, weight_of};
+use crate::row::{WideSum, always_fits, fitting_sum, gives_left, gives_right, row_sum};
 use crate::small::are_small;
 use crate::vector::Vector;
 use aq_prog::Gate;
@@ -122,6 +138,27 @@ fn new_entry(amps: &[Amp], qubits: u32, gate: &Gate, index: usize) -> Result<Amp
     row_sum(row[0], row[1], amps[low], amps[low + weight])
 }
 
+/// A qubit whose digit tells that the index is the first of no pair which the gate changes, if there is one: the target
+/// with digit 1, or a control with digit 0.
+#[inline]
+fn hindrance(index: usize, qubits: u32, gate: &Gate) -> Option<u32>
+    requires few { qubits ≤ 16 }
+    requires valid { IsValidGate qubits gate.now }
+    ensures { MatchOption result ((digit qubits gate.now.target index ≡ 0) × (is_controlled qubits gate.now.controls
+        index ≡ true)) (λ q. ((q ≡ gate.now.target) × (digit qubits q index ≡ 1)) ⊎ (Contains gate.now.controls q ×
+        (digit qubits q index ≡ 0))) }
+{
+    if digit_of(index, qubits, gate.target) != 0 {
+        return Some(gate.target);
+    }
+    for control in gate.controls.as_slice() {
+        if digit_of(index, qubits, *control) == 0 {
+            return Some(*control);
+        }
+    }
+    None
+}
+
 /// Writes the new amplitudes pair by pair, where all of them fit. `small`: all of the old ones are.
 pub(crate) fn write_gate(amps: &mut [Amp], qubits: u32, gate: &Gate, small: bool)
     requires valid { IsValidGate qubits gate.now }
@@ -131,12 +168,34 @@ pub(crate) fn write_gate(amps: &mut [Amp], qubits: u32, gate: &Gate, small: bool
     ensures { amps.new ≡ apply_gate qubits gate.now amps.old }
 {
     let weight = weight_of(qubits, gate.target);
-    let controls = gate.controls.as_slice();
-    for index in 0..amps.len() {
-        if digit_of(index, qubits, gate.target) == 0 && has_controls(index, qubits, controls) {
-            write_pair(amps, gate, index, weight, small);
+    let mut index = 0;
+    while index < amps.len() {
+        match hindrance(index, qubits, gate) {
+            Some(qubit) => index = next_change(index, qubits, qubit),
+            None => {
+                write_pair(amps, gate, index, weight, small);
+                index += 1;
+            }
         }
     }
+}
+
+/// Whether it is plain from the gate alone that it puts the amplitudes of a pair in each other's place.
+#[inline]
+fn exchanges(gate: &Gate) -> bool
+    ensures top { OnTrue result ((p q : Amplitude) → row_of gate.now 0 p q ≡ q) }
+    ensures bottom { OnTrue result ((p q : Amplitude) → row_of gate.now 1 p q ≡ p) }
+{
+    gives_right(gate.matrix.rows[0][0], gate.matrix.rows[0][1])
+        && gives_left(gate.matrix.rows[1][0], gate.matrix.rows[1][1])
+}
+
+/// Whether it is plain from the gate alone that it keeps the first amplitude of a pair.
+#[inline]
+fn keeps_first(gate: &Gate) -> bool
+    ensures { OnTrue result ((p q : Amplitude) → row_of gate.now 0 p q ≡ p) }
+{
+    gives_left(gate.matrix.rows[0][0], gate.matrix.rows[0][1])
 }
 
 /// Writes the two new amplitudes at the index and so far behind it. Two zeros stay. `small`: the old ones are.
@@ -153,10 +212,33 @@ fn write_pair(amps: &mut [Amp], gate: &Gate, low: usize, weight: usize, small: b
         (amplitude_at amps.old (low + weight))))
         (low + weight) (row_of gate.now 1 (amplitude_at amps.old low) (amplitude_at amps.old (low + weight))) }
 {
+    if exchanges(gate) {
+        amps.swap(low, low + weight);
+        return;
+    }
     if amps[low].is_zero() && amps[low + weight].is_zero() {
         return;
     }
+    if keeps_first(gate) {
+        write_second(amps, gate, low, weight, small);
+        return;
+    }
     write_rows(amps, gate, low, weight, small);
+}
+
+/// Writes the second row of the two amplitudes.
+#[inline(never)]
+fn write_second(amps: &mut [Amp], gate: &Gate, low: usize, weight: usize, small: bool)
+    requires entries { AreEntries gate.now.matrix.rows }
+    requires within { low + weight < length amps.old }
+    requires bottom { FitsRowOf gate.now 1 (amplitude_at amps.old low) (amplitude_at amps.old (low + weight)) }
+    requires small_low { OnTrue small (IsSmallAmplitude (amplitude_at amps.old low)) }
+    requires small_high { OnTrue small (IsSmallAmplitude (amplitude_at amps.old (low + weight))) }
+    ensures { amps.new ≡ slice_set amps.old (low + weight) (row_of gate.now 1 (amplitude_at amps.old low)
+        (amplitude_at amps.old (low + weight))) }
+{
+    let row = gate.matrix.rows[1];
+    amps[low + weight] = fitting_sum(row[0], row[1], amps[low], amps[low + weight], small);
 }
 
 /// Writes both rows of the two amplitudes.

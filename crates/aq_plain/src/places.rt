@@ -1,5 +1,5 @@
 //! The digits of indices.
-ghost use Rattle.std.specs.Prelude.{◌≡◌, ◌≤◌, ◌<◌, ◌^◌};
+ghost use Rattle.std.specs.Prelude.{◌≡◌, ◌≤◌, ◌<◌, ◌^◌, ◌+◌, ◌*◌, ◌/◌};
 ghost use Rattle.std.specs.List.{All};
 ghost use Rattle.aq_prog.specs.Digits.{digit, weight};
 ghost use Rattle.aq_prog.specs.Gates.{is_controlled};
@@ -22,6 +22,18 @@ pub(crate) fn digit_of(index: usize, qubits: u32, qubit: u32) -> usize
     ensures { result ≡ digit qubits qubit index }
 {
     (index >> (qubits - 1 - qubit)) % 2
+}
+
+/// The next index whose digit at the qubit may be another one. Up to there it stays.
+#[inline]
+pub(crate) fn next_change(index: usize, qubits: u32, qubit: u32) -> usize
+    requires few { qubits ≤ 16 }
+    requires within { qubit < qubits }
+    requires index { index < 2 ^ qubits }
+    ensures { result ≡ (index / weight qubits qubit + 1) * weight qubits qubit }
+{
+    let place = qubits - 1 - qubit;
+    ((index >> place) + 1) << place
 }
 
 /// Whether each of the controls has digit 1.

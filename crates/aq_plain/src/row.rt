@@ -1,6 +1,7 @@
 //! A row of a gate's matrix on two amplitudes.
 ghost use Rattle.std.specs.Prelude.{◌≡◌, IfSome, MatchResult};
 ghost use Rattle.std.specs.Bool.{OnTrue};
+ghost use Rattle.aq_ring.specs.Fractions.{Amplitude};
 ghost use Rattle.aq_ring.specs.Amplitudes.{sum};
 ghost use Rattle.aq_prog.specs.Gates.{divided, term, FitsDivided, FitsTerm, IsEntry};
 ghost use Rattle.aq_plain.specs.Small.{IsSmallAmplitude};
@@ -83,6 +84,27 @@ pub(crate) fn always_fits(first: Entry, second: Entry) -> bool
     }
 }
 
+/// The entry 1.
+const ONE: Entry = Entry::Unit { turn: 0, roots: 0 };
+
+/// Whether it is plain from the entries that their row gives the left amplitude as it is.
+#[inline]
+#[tactic(auto, using(crate::proofs::PairLaws::left_alone))]
+pub(crate) fn gives_left(first: Entry, second: Entry) -> bool
+    ensures { OnTrue result ((p q : Amplitude) → sum (term first p) (term second q) ≡ p) }
+{
+    first == ONE && second == Entry::Zero
+}
+
+/// Whether it is plain from the entries that their row gives the right amplitude as it is.
+#[inline]
+#[tactic(auto, using(crate::proofs::PairLaws::right_alone))]
+pub(crate) fn gives_right(first: Entry, second: Entry) -> bool
+    ensures { OnTrue result ((p q : Amplitude) → sum (term first p) (term second q) ≡ q) }
+{
+    first == Entry::Zero && second == ONE
+}
+
 /// The sum of the two terms, where it fits. `small`: both amplitudes are.
 #[inline(always)]
 #[tactic(auto, using(crate::proofs::PairLaws::zero_after, crate::proofs::PairLaws::zero_before))]
@@ -94,6 +116,9 @@ pub(crate) fn fitting_sum(first: Entry, second: Entry, left: Amp, right: Amp, sm
     requires small_right { OnTrue small (IsSmallAmplitude right) }
     ensures { result ≡ sum (term first left) (term second right) }
 {
+    if small {
+        return small_sum(first, second, left, right);
+    }
     if second == Entry::Zero
         && let Some(amp) = lone_term(first, left)
     {
@@ -103,9 +128,6 @@ pub(crate) fn fitting_sum(first: Entry, second: Entry, left: Amp, right: Amp, sm
         && let Some(amp) = lone_term(second, right)
     {
         return amp;
-    }
-    if small {
-        return small_sum(first, second, left, right);
     }
     any_sum(first, second, left, right)
 }
