@@ -19,10 +19,11 @@ use Rattle.aq_prog.specs.Cuts.{cut_step, AreUncut}
 use Rattle.aq_prog.proofs.CutLaws.{branch_cuts}
 use Rattle.aq_prog.proofs.StmtLaws.{fold-gate, fold-measure}
 use Rattle.aq_sets.specs.Sizes.{size_of}
-use Rattle.aq_sets.specs.Valid.{IsValidExpr, IsValidSets, IsValidClaim}
+use Rattle.aq_sets.specs.Valid.{IsValidExpr, IsShortClaim, IsValidSets, IsValidClaim}
 use Rattle.aq_sets.specs.declared.sets.Expr.{Expr}
 use Rattle.aq_sets.specs.declared.sets.Sets.{Sets}
 use Rattle.aq_sets.specs.declared.sets.Term.{Term}
+use Rattle.aq_sets.proofs.ShortLists.{terms-short}
 use Rattle.aq_obligations.specs.Bound.{IsBoundCase, IsBoundObligation}
 use Rattle.aq_obligations.specs.declared.bound.Obligation.{Obligation}
 use Rattle.aq_obligations.specs.declared.bound.BoundCase.{BoundCase}
@@ -71,6 +72,12 @@ valid_sets a s e f g = subst IsValidSets (λ i. record { exprs = sym e i; sets =
   claims = All-nil (IsValidClaim (table a));
   names = tt;
   short = omega arith;
+  lists = record {
+    terms = terms-short (table a) (valid_exprs a) (valid_qubits a);
+    sets = omega arith;
+    claims = omega arith;
+    each_claim = All-nil IsShortClaim;
+  };
 })
 
 -- ---- the program

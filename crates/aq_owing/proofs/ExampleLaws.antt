@@ -1,5 +1,5 @@
 -- A program and sets to try the look-up on are valid.
-use Rattle.std.proofs.Common.{◌≡◌, ℕ, zero, suc, ◌<◌, ◌≤◌, Bool, true, false, List, [], ◌∷◌, ◌++◌, Some, refl, sym, ap, ◌∙◌, subst, arith}
+use Rattle.std.proofs.Common.{◌≡◌, ℕ, zero, suc, ◌<◌, ◌≤◌, Bool, true, false, List, [], ◌∷◌, ◌++◌, length, Some, refl, sym, ap, ◌∙◌, subst, arith}
 use Rattle.std.specs.Prelude.{slice_get}
 use Rattle.std.specs.List.{IsDistinct}
 use Rattle.std.proofs.lemmas.List.Elements.{All-cons, All-nil}
@@ -8,7 +8,7 @@ use Rattle.aq_prog.specs.declared.program.BitRegister.{BitRegister}
 use Rattle.aq_prog.specs.declared.program.Program.{Program}
 use Rattle.aq_prog.specs.declared.stmt.Stmt.{Stmt}
 use Rattle.aq_sets.specs.Sizes.{size_of}
-use Rattle.aq_sets.specs.Valid.{IsValidClaim, IsValidExpr, IsValidSets}
+use Rattle.aq_sets.specs.Valid.{IsValidClaim, IsValidExpr, IsShort, HasFewTerms, IsShortClaim, HasShortLists, IsValidSets}
 use Rattle.aq_sets.specs.declared.sets.Cond.{Cond}
 use Rattle.aq_sets.specs.declared.sets.Expr.{Expr}
 use Rattle.aq_sets.specs.declared.sets.Expr.TheVariants as expr
@@ -80,9 +80,21 @@ valid_claim name set when h = record {
   );
 }
 
-valid_two : (set : ℕ) (when other : List Cond) → set < 2 → IsValidSets (sets_of two_exprs one_set (two_claims set when other))
+short_claim : (name : List ℕ) (set : ℕ) (when : List Cond) → IsShort when → IsShortClaim (claim_of name set when)
+short_claim name set when few = record { cases = omega arith; conditions = All-cons (λ c. IsShort c.when) (record { set = set; when = when }) [] few (All-nil (λ c. IsShort c.when)) }
+
+short_two : (set : ℕ) (when other : List Cond) → IsShort when → IsShort other → HasShortLists (sets_of two_exprs one_set (two_claims set when other))
+short_two set when other few less = record {
+  terms = All-cons HasFewTerms (expr.All 1) (expr.All 2 ∷ []) tt (All-cons HasFewTerms (expr.All 2) [] tt (All-nil HasFewTerms));
+  sets = omega arith;
+  claims = omega arith;
+  each_claim = All-cons IsShortClaim (claim_of (112 ∷ []) set when) (claim_of (113 ∷ []) 1 other ∷ []) (short_claim (112 ∷ []) set when few)
+      (All-cons IsShortClaim (claim_of (113 ∷ []) 1 other) [] (short_claim (113 ∷ []) 1 other less) (All-nil IsShortClaim));
+}
+
+valid_two : (set : ℕ) (when other : List Cond) → set < 2 → IsShort when → IsShort other → IsValidSets (sets_of two_exprs one_set (two_claims set when other))
 unfolding IsDistinct
-valid_two set when other h = record {
+valid_two set when other h few less = record {
   exprs = valid_exprs;
   qubits = valid_qubits;
   sets = All-cons (λ n. n.expr < 2) (record { name = 115 ∷ []; expr = 1 }) [] (omega arith) (All-nil (λ n. n.expr < 2));
@@ -90,8 +102,11 @@ valid_two set when other h = record {
       (All-cons (IsValidClaim two_exprs) (claim_of (113 ∷ []) 1 other) [] (valid_claim (113 ∷ []) 1 other (omega arith)) (All-nil (IsValidClaim two_exprs)));
   names = ((refl, (refl, tt)), ((refl, tt), (tt, tt)));
   short = omega arith;
+  lists = short_two set when other few less;
 }
 
-pub valid_sets : (exprs : List Expr) (sets : List NamedSet) (claims : List NamedClaim) (set : ℕ) (when other : List Cond) → set < 2
+pub valid_sets : (exprs : List Expr) (sets : List NamedSet) (claims : List NamedClaim) (set : ℕ) (when other : List Cond) → set < 2 → IsShort when → other ≡ []
     → exprs ≡ two_exprs → sets ≡ one_set → claims ≡ two_claims set when other → IsValidSets (sets_of exprs sets claims)
-valid_sets exprs sets claims set when other h e f g = subst IsValidSets (λ i. sets_of (sym e i) (sym f i) (sym g i)) (valid_two set when other h)
+valid_sets exprs sets claims set when other h few none e f g =
+    let long = ap length none in
+    subst IsValidSets (λ i. sets_of (sym e i) (sym f i) (sym g i)) (valid_two set when other h few (omega (arith, long)))

@@ -1,6 +1,6 @@
 ghost use Rattle.std.specs.Prelude.{◌≡◌, ◌<◌, ◌∷◌, [], IfOk};
 ghost use Rattle.aq_prog.specs.Programs.{IsValidProgram};
-ghost use Rattle.aq_sets.specs.Valid.{IsValidSets};
+ghost use Rattle.aq_sets.specs.Valid.{IsShort, IsValidSets};
 
 use crate::{AskedClaims, ObligationFault, ask};
 use aq_lex::Text;
@@ -55,7 +55,8 @@ fn set(alloc: Global) -> Result<NamedSet, Fail>
 /// All basis states of one and of two qubits, the set `s`, the claim `p` of one case, and the claim `q` of all states
 /// of two qubits.
 fn sets(alloc: Global, position: u32, when: Items<Cond>) -> Result<Sets, Fail>
-    requires { position < 2 }
+    requires there { position < 2 }
+    requires short { IsShort when }
     ensures { IfOk result (λ s. IsValidSets s) }
 {
     let first = claim(alloc, b"p", position, when)?;

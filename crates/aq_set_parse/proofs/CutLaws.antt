@@ -81,7 +81,7 @@ slice_is source before text tail e =
     let n : length before + length text - length before ≡ length text = omega arith in
     ap (λ k. take k (drop (length before) source)) n ∙ ap (take (length text)) (ap (drop (length before)) e ∙ drop_at before (text ++ tail) (length before) refl) ∙ take_at text tail (length text) refl
 
-no_stop : (before text : List ℕ) (c : SetClass) (m : Result (List SetToken) SetLexFault) (ts : List SetToken) → followed (reading before c text) m ≡ Ok ts → stops c ≡ false
+pub no_stop : (before text : List ℕ) (c : SetClass) (m : Result (List SetToken) SetLexFault) (ts : List SetToken) → followed (reading before c text) m ≡ Ok ts → stops c ≡ false
 no_stop before text «class».Blank m ts e = refl
 no_stop before text «class».Comment m ts e = refl
 no_stop before text («class».Token k) m ts e = refl

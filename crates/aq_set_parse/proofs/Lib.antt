@@ -17,3 +17,4 @@ pub mod Deepening
 pub mod Endings
 pub mod Ways
 pub mod Judged
+pub mod ShortTrees

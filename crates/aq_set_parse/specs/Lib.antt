@@ -8,6 +8,7 @@ pub mod Words
 pub mod Pieces
 pub mod Tokens
 pub mod SetGrammar
+pub mod Short
 pub mod Reading
 pub mod Places
 pub mod Verdict

@@ -1,9 +1,11 @@
-ghost use Rattle.std.specs.Prelude.{◌≡◌, ◌⊎◌, List, [], ℕ, Result, Ok, map};
+ghost use Rattle.std.specs.Prelude.{◌≡◌, ◌≤◌, ◌+◌, ◌⊎◌, List, [], ℕ, Result, Ok, length, map};
 ghost use Rattle.aq_set_parse.specs.Cuts.{Lexeme, Cut, Reads, tokens_of, texts_of, slice_of};
 ghost use Rattle.aq_set_parse.specs.declared.token.SetToken.{SetToken};
 ghost use Rattle.aq_set_parse.specs.declared.fault.SetLexFault.{SetLexFault};
 ghost use Rattle.aq_set_parse.specs.Piece.{SetPiece};
+ghost use Rattle.aq_set_parse.specs.Pieces.{pieces};
 ghost use Rattle.aq_set_parse.specs.SetGrammar.{IsFile};
+ghost use Rattle.aq_set_parse.specs.Short.{IsShortTree};
 ghost use Rattle.aq_set_parse.specs.Verdict.{IsFault};
 ghost use Rattle.aq_set_parse.specs.declared.reader.Fault.{Fault};
 ghost use Rattle.aq_set_parse.specs.declared.tree.SetTree.{SetTree};
@@ -28,4 +30,13 @@ pub fn set_trees()
     // One of them.
     ensures some { (deep : ℕ) (ts : List SetPiece) → ((tree : SetTree) × IsFile deep tree ts) ⊎ ((k : Fault) ×
         (rest : List SetPiece) × IsFault deep ts k rest) }
+{}
+
+/// What holds of the lengths of a set file: of its tokens and of the lists in its tree. It does nothing.
+pub fn short_trees()
+    // At most one token more than bytes, which is the end.
+    ensures tokens { (text : List ℕ) (tokens : List SetToken) → Reads text (Ok tokens) → length tokens ≤ length text + 1 }
+    // No claim has more cases than the text has bytes, and no case more conditions.
+    ensures tree { (text : List ℕ) (tokens : List SetToken) (deep : ℕ) (tree : SetTree) → Reads text (Ok tokens)
+        → IsFile deep tree (pieces (record { source = text; list = tokens })) → IsShortTree (length text) tree }
 {}

@@ -1,5 +1,5 @@
 -- A text of a set file says one thing: its sets, which are valid, or its first fault.
-use Rattle.std.proofs.Common.{◌≡◌, ℕ, List, length, Result, Ok, Err, IfOk, IfErr, refl, ap, ap₂, sym, subst, ◌∙◌, take, nat_lt, Bool, true, false, arith}
+use Rattle.std.proofs.Common.{◌≡◌, ◌^◌, ◌<◌, ◌≤◌, ℕ, List, length, Result, Ok, Err, IfOk, IfErr, refl, ap, ap₂, sym, subst, ◌∙◌, take, nat_lt, Bool, true, false, arith}
 use Rattle.std.specs.Prelude.{IsUtf8}
 use Rattle.std.specs.Str.{IsValidUpTo}
 use Rattle.std.proofs.lemmas.Bool.{ltb-true, ltb-false}
@@ -11,11 +11,12 @@ use Rattle.aq_set_parse.specs.Piece.{SetPiece}
 use Rattle.aq_set_parse.specs.Pieces.{pieces}
 use Rattle.aq_set_parse.specs.Tokens.{place_of}
 use Rattle.aq_set_parse.specs.SetGrammar.{IsFile}
+use Rattle.aq_set_parse.specs.Short.{IsShortTree}
 use Rattle.aq_set_parse.specs.Verdict.{IsFault, text_of}
 use Rattle.aq_set_read.specs.Gathered.{Gives}
 use Rattle.aq_set_read.specs.Meaning.{sets_of}
 use Rattle.aq_sets.specs.Valid.{IsValidSets}
-use Rattle.aq_base.specs.Limits.{most_nested}
+use Rattle.aq_base.specs.Limits.{most_nested, most_sets_bytes}
 use Rattle.aq_set_read.specs.Texts.{HasSetTree, SaysSets, HasItemFault, SetFaultOf}
 use Rattle.aq_set_parse.specs.declared.token.SetToken.{SetToken}
 use Rattle.aq_set_parse.specs.declared.tree.SetTree.{SetTree}
@@ -28,28 +29,33 @@ use Rattle.aq_set_read.specs.declared.set_fault.SetFault.{SetFault}
 use Rattle.aq_set_read.specs.declared.set_fault.SetFault.TheVariants as faults
 use Rattle.aq_set_parse.proofs.CutLaws.{one_reading}
 use Rattle.aq_set_parse.proofs.Judged.{one_tree, one_fault}
+use Rattle.aq_set_parse.proofs.ShortTrees.{short_tree}
 use Rattle.aq_set_read.proofs.ValidChecks.{Judged}
 use Rattle.aq_set_read.proofs.ValidItems.{sets_of-valid}
 
 -- ---- what the meaning of a tree gives
 
-pub tree-valid : (tree : SetTree) (s : Sets) → sets_of tree ≡ Ok s → IsValidSets s
-tree-valid tree s e = subst (Judged IsValidSets) e (sets_of-valid tree)
+pub tree-valid : (n : ℕ) (tree : SetTree) (s : Sets) → n < 2 ^ 32 → IsShortTree n tree → sets_of tree ≡ Ok s → IsValidSets s
+tree-valid n tree s small short e = subst (Judged IsValidSets) e (sets_of-valid n tree small short)
 
-pub text-valid : (text : List ℕ) (s : Sets) → SaysSets text s → IsValidSets s
-text-valid text s says = tree-valid says.tree s says.meaning
+-- the lists of a text's tree are no longer than the text
+tree-short : (text : List ℕ) (tree : SetTree) → HasSetTree text tree → IsShortTree (length text) tree
+tree-short text tree has = short_tree text has.tokens most_nested tree has.cut has.grammar
 
-pub valid_given : (r : Result Sets SetFault) (tree : SetTree) → Gives (λ (s : Sets). s) r (sets_of tree) → IfOk r IsValidSets
-valid_given (Ok s) tree e = tree-valid tree s e
-valid_given (Err f) tree h = tt
+pub text-valid : (text : List ℕ) (s : Sets) → length text < 2 ^ 32 → SaysSets text s → IsValidSets s
+text-valid text s small says = tree-valid (length text) says.tree s small (tree-short text says.tree says.has_tree) says.meaning
 
-module _ (text : List ℕ) (tree : SetTree) (has : HasSetTree text tree) where
+pub valid_given : (r : Result Sets SetFault) (text : List ℕ) (tree : SetTree) → length text ≤ most_sets_bytes → HasSetTree text tree → Gives (λ (s : Sets). s) r (sets_of tree) → IfOk r IsValidSets
+valid_given (Ok s) text tree few has e = tree-valid (length text) tree s (omega (arith, few)) (tree-short text tree has) e
+valid_given (Err f) text tree few has h = tt
+
+module _ (text : List ℕ) (tree : SetTree) (few : length text ≤ most_sets_bytes) (has : HasSetTree text tree) where
   -- the meaning of a tree has no fault of bytes, tokens or the grammar
   abbrev Told : SetFault → Type 0
   Told f = (f ≡ faults.Memory → ⊥) → sets_of tree ≡ Err f
 
   judged : (f : SetFault) → Told f → (f ≡ faults.Memory → ⊥) → Judged IsValidSets (Err f)
-  judged f told not = subst (Judged IsValidSets) (told not) (sets_of-valid tree)
+  judged f told not = subst (Judged IsValidSets) (told not) (sets_of-valid (length text) tree (omega (arith, few)) (tree-short text tree has))
 
   item : (f : SetFault) → Told f → (f ≡ faults.Memory → ⊥) → HasItemFault text f
   item f told not = record { tree = tree; has_tree = has; meaning = told not }
@@ -72,9 +78,9 @@ module _ (text : List ℕ) (tree : SetTree) (has : HasSetTree text tree) where
   fault_told (faults.TooManyNodes at) h = item (faults.TooManyNodes at) h (λ e. cc)
   fault_told faults.Memory h = tt
 
-pub fault_given : (r : Result Sets SetFault) (text : List ℕ) (tree : SetTree) → HasSetTree text tree → Gives (λ (s : Sets). s) r (sets_of tree) → IfErr r (SetFaultOf text)
-fault_given (Ok s) text tree has h = tt
-fault_given (Err f) text tree has h = fault_told text tree has f h
+pub fault_given : (r : Result Sets SetFault) (text : List ℕ) (tree : SetTree) → length text ≤ most_sets_bytes → HasSetTree text tree → Gives (λ (s : Sets). s) r (sets_of tree) → IfErr r (SetFaultOf text)
+fault_given (Ok s) text tree few has h = tt
+fault_given (Err f) text tree few has h = fault_told text tree few has f h
 
 -- ---- one tree, one list of sets
 

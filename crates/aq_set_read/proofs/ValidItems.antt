@@ -1,18 +1,19 @@
 -- What the items of a set file give is valid.
-use Rattle.std.proofs.Common.{◌≡◌, ℕ, suc, ◌+◌, ◌<◌, ◌==◌, Bool, true, false, not, nat_lt, List, [], ◌∷◌, ◌++◌, map, length, Option, Some, None, Ok, refl, sym, ap, subst, ◌∙◌, arith}
+use Rattle.std.proofs.Common.{◌≡◌, ℕ, suc, ◌+◌, ◌^◌, ◌<◌, ◌≤◌, ◌==◌, Bool, true, false, not, nat_lt, List, [], ◌∷◌, ◌++◌, map, length, All, Option, Some, None, Ok, refl, sym, ap, subst, ◌∙◌, arith}
 use Rattle.std.specs.Prelude.{if◌then◌else◌}
 use Rattle.std.specs.List.{AllByRecursion, IsDistinct}
 use Rattle.std.specs.Option.{is_some}
 use Rattle.std.specs.Str.{bytes_eq}
-use Rattle.std.proofs.lemmas.Bool.{eqb-true, not-false}
-use Rattle.std.proofs.lemmas.List.{length_push, map-append, append_assoc, append-nil}
-use Rattle.std.proofs.lemmas.List.Elements.{All-from_recursion}
+use Rattle.std.proofs.lemmas.Bool.{eqb-true, ltb-false, not-false}
+use Rattle.std.proofs.lemmas.List.{length_push, length-map, map-append, append_assoc, append-nil}
+use Rattle.std.proofs.lemmas.List.Elements.{All-from_recursion, recursion_from_All}
 use Rattle.aq_base.specs.Checks.{refuse_if, ◌>>=◌, ◌>>◌}
 use Rattle.aq_base.specs.Limits.{most_names}
 use Rattle.aq_set_read.specs.Gathered.{Gathered, named, nothing_gathered}
-use Rattle.aq_set_read.specs.Meaning.{Step, meaning, cases_made, same_qubits, first_qubits, cases_of, naming, with_set, with_claim, item_taken, items_taken, sets_in, sets_of}
+use Rattle.aq_set_read.specs.Meaning.{Step, meaning, cond_of, cases_made, same_qubits, first_qubits, cases_of, naming, with_set, with_claim, item_taken, items_taken, sets_in, sets_of}
 use Rattle.aq_sets.specs.Sizes.{size_of}
-use Rattle.aq_sets.specs.Valid.{IsValidClaim, IsValidSets}
+use Rattle.aq_sets.specs.Valid.{IsValidClaim, IsShort, IsShortClaim, HasShortLists, IsValidSets}
+use Rattle.aq_set_parse.specs.Short.{IsShortCase, IsShortItem, IsShortTree}
 use Rattle.aq_set_read.specs.declared.made.Made.{Made}
 use Rattle.aq_set_parse.specs.declared.tree.SetWord.{SetWord}
 use Rattle.aq_set_parse.specs.declared.tree.SetCase.{SetCase}
@@ -25,6 +26,7 @@ use Rattle.aq_sets.specs.declared.sets.NamedSet.{NamedSet}
 use Rattle.aq_sets.specs.declared.sets.NamedClaim.{NamedClaim}
 use Rattle.aq_set_read.specs.declared.set_fault.SetFault.TheVariants as faults
 use Rattle.aq_set_read.proofs.ValidChecks.{Judged, follows, ahead, unless, refusal, weaker}
+use Rattle.aq_sets.proofs.ShortLists.{terms-short}
 use Rattle.aq_sets.proofs.ValidSizes.{holds_more, holds_behind, holds_between, distinct_between}
 use Rattle.aq_set_read.proofs.ValidNodes.{IsMade, IsCaseOn, IsSoundClaim, names_of, AreNamed, IsSound, IsGrown, not_grown, grown_twice, made-grown, IsFine}
 use Rattle.aq_set_read.proofs.ValidExprs.{meaning-good}
@@ -35,13 +37,21 @@ none_from : {A : Type 0} (o : Option A) → is_some o ≡ false → o ≡ None
 none_from None e = refl
 none_from (Some x) e = absurd cc
 
--- a name that may be given is new
-naming-new : (name : SetWord) (g : Gathered) → Judged (λ u. named g.names name.text ≡ None) (naming name g)
+-- a name that may be given is new, and there is room for it
+abbrev IsFree : List ℕ → Gathered → Type 0
+IsFree name g = (named g.names name ≡ None) × (length g.names + 1 ≤ most_names)
+
+naming-free : (name : SetWord) (g : Gathered) → Judged (λ u. IsFree name.text g) (naming name g)
 unfolding naming
-naming-new name g =
-    unless (λ u. named g.names name.text ≡ None) (nat_lt most_names (suc (length g.names))) (faults.TooManyNames name.at) (refuse_if (is_some (named g.names name.text)) (faults.TwiceNamed name.at)) tt (λ room.
-    weaker (λ u. is_some (named g.names name.text) ≡ false) (λ u. named g.names name.text ≡ None) (refuse_if (is_some (named g.names name.text)) (faults.TwiceNamed name.at))
-    (refusal (is_some (named g.names name.text)) (faults.TwiceNamed name.at) tt) (λ u e. none_from (named g.names name.text) e))
+naming-free name g =
+    unless (λ u. IsFree name.text g) (nat_lt most_names (suc (length g.names))) (faults.TooManyNames name.at) (refuse_if (is_some (named g.names name.text)) (faults.TwiceNamed name.at)) tt (λ room.
+    let le = ltb-false most_names (suc (length g.names)) room in
+    weaker (λ u. is_some (named g.names name.text) ≡ false) (λ u. IsFree name.text g) (refuse_if (is_some (named g.names name.text)) (faults.TwiceNamed name.at))
+    (refusal (is_some (named g.names name.text)) (faults.TwiceNamed name.at) tt) (λ u e. (none_from (named g.names name.text) e, omega (arith, le))))
+
+-- where the names are the same, a name stays free
+free-grown : (name : List ℕ) (g h : Gathered) → IsGrown g h → IsFree name g → IsFree name h
+free-grown name g h grown free = subst (λ (names : List (List ℕ × Option Made)). (named names name ≡ None) × (length names + 1 ≤ most_names)) (sym grown.names) free
 
 some_is : {A : Type 0} (x y : A) → Some x ≡ Some y → x ≡ y
 some_is x y e = cc
@@ -107,14 +117,17 @@ module _ (exprs : List Expr) (names : List (List ℕ × Option Made)) (sets : Li
         subst (AllByRecursion (λ other. bytes_eq name other ≡ false)) (sym after)
         (holds_between (λ other. bytes_eq name other ≡ false) front back key (subst (AllByRecursion (λ other. bytes_eq name other ≡ false)) (sym before) (h.new name un.0)) un.1)
 
-set-sound : (name : List ℕ) (s : Step Made) → IsSound s.gathered → named s.gathered.names name ≡ None → IsMade s.gathered.exprs s.value → IsSound (with_set name s)
-set-sound name s sound absent made =
+set-sound : (name : List ℕ) (s : Step Made) → IsSound s.gathered → IsFree name s.gathered → IsMade s.gathered.exprs s.value → IsSound (with_set name s)
+set-sound name s sound free made =
     let g = s.gathered in
+    let absent = free.0 in
     let x : NamedSet = record { name = name; expr = s.value.expr } in
     let is_made : IsMadeOf g.exprs (Some s.value) = λ m e. subst (IsMade g.exprs) (some_is s.value m e) made in
     let front = map (λ (n : NamedSet). n.name) g.sets in
     let back = map (λ (c : NamedClaim). c.name) g.claims in
     let all = names_of (g.sets ++ x ∷ []) g.claims in
+    let long = length_push g.names (name, Some s.value) in
+    let more = length_push g.sets x in
     record {
       exprs = sound.exprs;
       counted = sound.counted;
@@ -125,15 +138,20 @@ set-sound name s sound absent made =
         claims_sound = sound.names.claims_sound;
         distinct = distinct_then g.exprs g.names g.sets g.claims name (Some s.value) sound.names absent is_made front back all refl (set_names g.sets g.claims x);
         new = new_then g.exprs g.names g.sets g.claims name (Some s.value) sound.names absent is_made front back all refl (set_names g.sets g.claims x);
+        counted = omega (arith, sound.names.counted, long, more);
       };
+      few_names = omega (arith, long, free.1);
     }
 
-claim-sound : (name : List ℕ) (cases : List Case) (g : Gathered) → IsSound g → named g.names name ≡ None → IsSoundClaim g.exprs (record { name = name; cases = cases }) → IsSound (with_claim name cases g)
-claim-sound name cases g sound absent is =
+claim-sound : (name : List ℕ) (cases : List Case) (g : Gathered) → IsSound g → IsFree name g → IsSoundClaim g.exprs (record { name = name; cases = cases }) → IsSound (with_claim name cases g)
+claim-sound name cases g sound free is =
+    let absent = free.0 in
     let x : NamedClaim = record { name = name; cases = cases } in
     let is_made : IsMadeOf g.exprs None = λ m e. absurd cc in
     let front = names_of g.sets g.claims in
     let all = names_of g.sets (g.claims ++ x ∷ []) in
+    let long = length_push g.names (name, None) in
+    let more = length_push g.claims x in
     record {
       exprs = sound.exprs;
       counted = sound.counted;
@@ -144,7 +162,9 @@ claim-sound name cases g sound absent is =
         claims_sound = holds_behind (IsSoundClaim g.exprs) g.claims x sound.names.claims_sound is;
         distinct = distinct_then g.exprs g.names g.sets g.claims name None sound.names absent is_made front [] all (append-nil front) (claim_names g.sets g.claims x);
         new = new_then g.exprs g.names g.sets g.claims name None sound.names absent is_made front [] all (append-nil front) (claim_names g.sets g.claims x);
+        counted = omega (arith, sound.names.counted, long, more);
       };
+      few_names = omega (arith, long, free.1);
     }
 
 -- ---- cases
@@ -184,38 +204,62 @@ some_cases [] made e lt = absurd (omega (arith, e, lt))
 some_cases (c ∷ cs) [] e lt = lt
 some_cases (c ∷ cs) (m ∷ ms) e lt = omega arith
 
+-- no more cases than are written, each with the conditions that are written
+cases_of-few : (cases : List SetCase) (made : List Made) → length (cases_of cases made) ≤ length cases
+cases_of-few [] made = omega arith
+cases_of-few (c ∷ cs) [] = omega arith
+cases_of-few (c ∷ cs) (m ∷ ms) = let le = cases_of-few cs ms in omega (arith, le)
+
+conditions-short : (n : ℕ) → n < 2 ^ 32 → (cases : List SetCase) (made : List Made) → AllByRecursion (IsShortCase n) cases → AllByRecursion (λ (c : Case). IsShort c.when) (cases_of cases made)
+conditions-short n lt [] made h = tt
+conditions-short n lt (c ∷ cs) [] h = tt
+conditions-short n lt (c ∷ cs) (m ∷ ms) h =
+    let long = length-map c.when cond_of in
+    (omega (arith, lt, long, h.0), conditions-short n lt cs ms h.1)
+
+claim-short : (n : ℕ) → n < 2 ^ 32 → (name : List ℕ) (cases : List SetCase) (made : List Made) → (length cases ≤ n) × All (IsShortCase n) cases → IsShortClaim (record { name = name; cases = cases_of cases made })
+claim-short n lt name cases made h =
+    let le = cases_of-few cases made in
+    record {
+      cases = omega (arith, lt, le, h.0);
+      conditions = All-from_recursion (λ (c : Case). IsShort c.when) (cases_of cases made) (conditions-short n lt cases made (recursion_from_All (IsShortCase n) cases h.1));
+    }
+
 first_qubits-some : (made : List Made) → Judged (λ n. 0 < length made) (first_qubits made)
 first_qubits-some [] = tt
 first_qubits-some (m ∷ ms) = omega arith
 
 -- ---- items
 
-claim-taken : (name : SetWord) (cases : List SetCase) (g : Gathered) (s : Step (List Made)) → named g.names name.text ≡ None → AreMade g (length cases) s
+claim-taken : (name : SetWord) (cases : List SetCase) (g : Gathered) (s : Step (List Made)) → IsFree name.text g → AreMade g (length cases) s → IsShortClaim (record { name = name.text; cases = cases_of cases s.value })
     → Judged IsSound (first_qubits s.value >>= λ n. same_qubits n cases s.value >> Ok (with_claim name.text (cases_of cases s.value) s.gathered))
-claim-taken name cases g s absent are =
+claim-taken name cases g s free are short =
     let whole = Ok (with_claim name.text (cases_of cases s.value) s.gathered) in
     follows (λ n. 0 < length s.value) IsSound (first_qubits s.value) (λ n. same_qubits n cases s.value >> whole) (first_qubits-some s.value) (λ n some.
     ahead (AllByRecursion (λ (m : Made). m.qubits ≡ n) s.value) IsSound (same_qubits n cases s.value) whole (same_qubits-same n cases s.value are.long) (λ same.
-    claim-sound name.text (cases_of cases s.value) s.gathered are.sound (ap (λ (names : List (List ℕ × Option Made)). named names name.text) are.grown.names ∙ absent) (record {
+    claim-sound name.text (cases_of cases s.value) s.gathered are.sound (free-grown name.text g s.gathered are.grown free) (record {
       some = some_cases cases s.value are.long some;
       qubits = n;
       cases_on = cases_of-on s.gathered.exprs n cases s.value are.made same;
+      short = short;
     })))
 
-item-sound : (x : SetItem) (g : Gathered) → IsSound g → Judged IsSound (item_taken x g)
-item-sound (items.Set name e) g sound =
-    ahead (named g.names name.text ≡ None) IsSound (naming name g) (meaning e g >>= λ s. Ok (with_set name.text s)) (naming-new name g) (λ absent.
-    follows (IsFine g) IsSound (meaning e g) (λ s. Ok (with_set name.text s)) (meaning-good e g sound) (λ s fine.
-    set-sound name.text s fine.sound (ap (λ (names : List (List ℕ × Option Made)). named names name.text) fine.grown.names ∙ absent) fine.made))
-item-sound (items.Claim name cases) g sound =
-    let rest = λ (s : Step (List Made)). first_qubits s.value >>= λ n. same_qubits n cases s.value >> Ok (with_claim name.text (cases_of cases s.value) s.gathered) in
-    ahead (named g.names name.text ≡ None) IsSound (naming name g) (cases_made [] cases g >>= rest) (naming-new name g) (λ absent.
-    follows (AreMade g (0 + length cases)) IsSound (cases_made [] cases g) rest (cases_made-are g [] cases g sound (not_grown g g refl refl) tt) (λ s are.
-    claim-taken name cases g s absent (record { sound = are.sound; grown = are.grown; made = are.made; long = omega (arith, are.long) })))
+-- of items that are short
+module _ (n : ℕ) (small : n < 2 ^ 32) where
+  item-sound : (x : SetItem) (g : Gathered) → IsShortItem n x → IsSound g → Judged IsSound (item_taken x g)
+  item-sound (items.Set name e) g short sound =
+      ahead (IsFree name.text g) IsSound (naming name g) (meaning e g >>= λ s. Ok (with_set name.text s)) (naming-free name g) (λ free.
+      follows (IsFine g) IsSound (meaning e g) (λ s. Ok (with_set name.text s)) (meaning-good e g sound) (λ s fine.
+      set-sound name.text s fine.sound (free-grown name.text g s.gathered fine.grown free) fine.made))
+  item-sound (items.Claim name cases) g short sound =
+      let rest = λ (s : Step (List Made)). first_qubits s.value >>= λ n. same_qubits n cases s.value >> Ok (with_claim name.text (cases_of cases s.value) s.gathered) in
+      ahead (IsFree name.text g) IsSound (naming name g) (cases_made [] cases g >>= rest) (naming-free name g) (λ free.
+      follows (AreMade g (0 + length cases)) IsSound (cases_made [] cases g) rest (cases_made-are g [] cases g sound (not_grown g g refl refl) tt) (λ s are.
+      claim-taken name cases g s free (record { sound = are.sound; grown = are.grown; made = are.made; long = omega (arith, are.long) }) (claim-short n small name.text cases s.value short)))
 
-items-sound : (xs : List SetItem) (g : Gathered) → IsSound g → Judged IsSound (items_taken xs g)
-items-sound [] g sound = sound
-items-sound (x ∷ xs) g sound = follows IsSound IsSound (item_taken x g) (items_taken xs) (item-sound x g sound) (items-sound xs)
+  items-sound : (xs : List SetItem) (g : Gathered) → AllByRecursion (IsShortItem n) xs → IsSound g → Judged IsSound (items_taken xs g)
+  items-sound [] g short sound = sound
+  items-sound (x ∷ xs) g short sound = follows IsSound IsSound (item_taken x g) (items_taken xs) (item-sound x g short.0 sound) (λ h next. items-sound xs h short.1 next)
 
 -- ---- the whole
 
@@ -225,7 +269,8 @@ nothing-sound = record {
   exprs = record { valid = λ i e at. absurd cc; qubits = λ i lt. absurd (omega (arith, lt)) };
   counted = omega arith;
   few = omega arith;
-  names = record { made = λ name m e. absurd cc; sets_there = tt; claims_sound = tt; distinct = tt; new = λ name e. tt };
+  names = record { made = λ name m e. absurd cc; sets_there = tt; claims_sound = tt; distinct = tt; new = λ name e. tt; counted = omega arith };
+  few_names = omega arith;
 }
 
 claim-valid : (exprs : List Expr) (claim : NamedClaim) → IsSoundClaim exprs claim → IsValidClaim exprs claim
@@ -233,6 +278,15 @@ claim-valid exprs claim h = record {
   some = h.some;
   there = All-from_recursion (λ (c : Case). c.set < length exprs) claim.cases (holds_more (IsCaseOn exprs h.qubits) (λ (c : Case). c.set < length exprs) (λ c on. on.0) claim.cases h.cases_on);
   equal = (h.qubits, All-from_recursion (λ (c : Case). (size_of exprs c.set).qubits ≡ h.qubits) claim.cases (holds_more (IsCaseOn exprs h.qubits) (λ (c : Case). (size_of exprs c.set).qubits ≡ h.qubits) (λ c on. on.1) claim.cases h.cases_on));
+}
+
+-- sets and claims have names, of which there are few
+gathered-short : (g : Gathered) → IsSound g → HasShortLists (sets_in g)
+gathered-short g sound = record {
+  terms = terms-short g.exprs sound.exprs.valid sound.exprs.qubits;
+  sets = omega (arith, sound.names.counted, sound.few_names);
+  claims = omega (arith, sound.names.counted, sound.few_names);
+  each_claim = All-from_recursion IsShortClaim g.claims (holds_more (IsSoundClaim g.exprs) IsShortClaim (λ claim is. is.short) g.claims sound.names.claims_sound);
 }
 
 gathered-valid : (g : Gathered) → IsSound g → IsValidSets (sets_in g)
@@ -243,8 +297,12 @@ gathered-valid g sound = record {
   claims = All-from_recursion (IsValidClaim g.exprs) g.claims (holds_more (IsSoundClaim g.exprs) (IsValidClaim g.exprs) (claim-valid g.exprs) g.claims sound.names.claims_sound);
   names = sound.names.distinct;
   short = omega (arith, sound.counted, sound.few);
+  lists = gathered-short g sound;
 }
 
-pub sets_of-valid : (tree : SetTree) → Judged IsValidSets (sets_of tree)
+-- a tree that is short means sets that are valid
+pub sets_of-valid : (n : ℕ) (tree : SetTree) → n < 2 ^ 32 → IsShortTree n tree → Judged IsValidSets (sets_of tree)
 unfolding sets_of
-sets_of-valid tree = follows IsSound IsValidSets (items_taken tree.items nothing_gathered) (λ g. Ok (sets_in g)) (items-sound tree.items nothing_gathered nothing-sound) gathered-valid
+sets_of-valid n tree small short =
+    follows IsSound IsValidSets (items_taken tree.items nothing_gathered) (λ g. Ok (sets_in g))
+    (items-sound n small tree.items nothing_gathered (recursion_from_All (IsShortItem n) tree.items short) nothing-sound) gathered-valid

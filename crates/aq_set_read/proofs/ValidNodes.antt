@@ -8,12 +8,12 @@ use Rattle.std.proofs.lemmas.List.{length-append, length_push, append_assoc, app
 use Rattle.std.proofs.lemmas.Option.{slice_get_within}
 use Rattle.aq_lex.specs.declared.place.Place.{Place}
 use Rattle.aq_base.specs.Checks.{◌>>=◌}
-use Rattle.aq_base.specs.Limits.{most_nodes, most_qubits}
+use Rattle.aq_base.specs.Limits.{most_names, most_nodes, most_qubits}
 use Rattle.aq_set_read.specs.Gathered.{Gathered, Checked, counted, named}
 use Rattle.aq_sets.specs.Tables.{table}
 use Rattle.aq_sets.specs.Sizes.{Size, size_step, size_of}
 use Rattle.aq_set_read.specs.Meaning.{Step, out_of_range, with_expr, node}
-use Rattle.aq_sets.specs.Valid.{IsValidExpr}
+use Rattle.aq_sets.specs.Valid.{IsShortClaim, IsValidExpr}
 use Rattle.aq_set_read.specs.declared.made.Made.{Made}
 use Rattle.aq_sets.specs.declared.sets.Expr.{Expr}
 use Rattle.aq_sets.specs.declared.sets.Case.{Case}
@@ -44,23 +44,27 @@ pub record IsSoundClaim (exprs : List Expr) (claim : NamedClaim) : Type 0 where
   pub some : 0 < length claim.cases
   pub qubits : ℕ
   pub cases_on : AllByRecursion (IsCaseOn exprs qubits) claim.cases
+  pub short : IsShortClaim claim
 
 abbrev pub names_of : List NamedSet → List NamedClaim → List (List ℕ)
 names_of sets claims = map (λ (s : NamedSet). s.name) sets ++ map (λ (c : NamedClaim). c.name) claims
 
--- what the names stand for is there; no name is another, and one that isn't known is none of them
+-- what the names stand for is there; no name is another, and one that isn't known is none of them; each set and each claim
+-- has a name
 pub record AreNamed (exprs : List Expr) (names : List (List ℕ × Option Made)) (sets : List NamedSet) (claims : List NamedClaim) : Type 0 where
   pub made : (name : List ℕ) (m : Made) → named names name ≡ Some (Some m) → IsMade exprs m
   pub sets_there : AllByRecursion (λ (s : NamedSet). s.expr < length exprs) sets
   pub claims_sound : AllByRecursion (IsSoundClaim exprs) claims
   pub distinct : IsDistinct bytes_eq (names_of sets claims)
   pub new : (name : List ℕ) → named names name ≡ None → AllByRecursion (λ other. bytes_eq name other ≡ false) (names_of sets claims)
+  pub counted : length sets + length claims ≤ length names
 
 pub record IsSound (g : Gathered) : Type 0 where
   pub exprs : AreSound g.exprs
   pub counted : length g.exprs ≤ g.nodes
   pub few : g.nodes ≤ most_nodes
   pub names : AreNamed g.exprs g.names g.sets g.claims
+  pub few_names : length g.names ≤ most_names
 
 -- ---- grown
 
@@ -99,6 +103,7 @@ claim-behind exprs more claim h = record {
   some = h.some;
   qubits = h.qubits;
   cases_on = holds_more (IsCaseOn exprs h.qubits) (IsCaseOn (exprs ++ more) h.qubits) (case-behind exprs more h.qubits) claim.cases h.cases_on;
+  short = h.short;
 }
 
 named-behind : (exprs more : List Expr) (names : List (List ℕ × Option Made)) (sets : List NamedSet) (claims : List NamedClaim) → AreNamed exprs names sets claims → AreNamed (exprs ++ more) names sets claims
@@ -110,6 +115,7 @@ named-behind exprs more names sets claims h =
       claims_sound = holds_more (IsSoundClaim exprs) (IsSoundClaim (exprs ++ more)) (claim-behind exprs more) claims h.claims_sound;
       distinct = h.distinct;
       new = h.new;
+      counted = h.counted;
     }
 
 -- ---- one expression more
@@ -166,7 +172,7 @@ counted-judged R at g next k =
     (λ h is. subst (λ x. Judged R (next x)) (sym is.0) (k is.1))
 
 pub counted-sound : (g : Gathered) → IsSound g → g.nodes + 1 ≤ most_nodes → IsSound (one_node_more g)
-counted-sound g sound few = record { exprs = sound.exprs; counted = omega (arith, sound.counted); few = omega (arith, few); names = sound.names }
+counted-sound g sound few = record { exprs = sound.exprs; counted = omega (arith, sound.counted); few = omega (arith, few); names = sound.names; few_names = sound.few_names }
 
 pushed-fine : (g : Gathered) (e : Expr) (qubits : ℕ) → IsSound g → IsNext g.exprs e qubits → g.nodes + 1 ≤ most_nodes → IsFine g (with_expr e qubits (one_node_more g))
 pushed-fine g e qubits sound next few =
@@ -177,6 +183,7 @@ pushed-fine g e qubits sound next few =
         counted = omega (arith, sound.counted, long);
         few = omega (arith, few);
         names = named-behind g.exprs (e ∷ []) g.names g.sets g.claims sound.names;
+        few_names = sound.few_names;
       };
       grown = record { more = e ∷ []; exprs = refl; names = refl };
       made = record { there = omega (arith, long); qubits = ap (λ (s : Size). s.qubits) (size-last g.exprs e) ∙ next.is };

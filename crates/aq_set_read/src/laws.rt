@@ -1,4 +1,5 @@
-ghost use Rattle.std.specs.Prelude.{◌≡◌, List, ℕ, Ok};
+ghost use Rattle.std.specs.Prelude.{◌≡◌, ◌<◌, ◌^◌, List, ℕ, Ok, length};
+ghost use Rattle.aq_set_parse.specs.Short.{IsShortTree};
 ghost use Rattle.aq_set_parse.specs.declared.tree.SetTree.{SetTree};
 ghost use Rattle.aq_set_read.specs.Meaning.{sets_of};
 ghost use Rattle.aq_set_read.specs.Texts.{SaysSets, SetFaultOf};
@@ -17,7 +18,8 @@ pub fn set_files()
     // Not both.
     ensures apart { (text : List ℕ) (sets : Sets) (f : SetFault) → SaysSets text sets → SetFaultOf text f →
         (f ≡ faults.Memory → ⊥) → ⊥ }
-    // What it says is valid, as is what any tree means.
-    ensures valid { (text : List ℕ) (sets : Sets) → SaysSets text sets → IsValidSets sets }
-    ensures meaning { (tree : SetTree) (sets : Sets) → sets_of tree ≡ Ok sets → IsValidSets sets }
+    // What it says is valid, as is what any tree means. That no list is long takes a text, or a tree, that isn't.
+    ensures valid { (text : List ℕ) (sets : Sets) → length text < 2 ^ 32 → SaysSets text sets → IsValidSets sets }
+    ensures meaning { (n : ℕ) (tree : SetTree) (sets : Sets) → n < 2 ^ 32 → IsShortTree n tree → sets_of tree ≡ Ok sets
+        → IsValidSets sets }
 {}

@@ -56,7 +56,7 @@ pub fn read_sets(alloc: Global, source: &[u8]) -> Result<Sets, SetFault>
     requires { length source.now ≤ 4194304 }
     // The sets and claims are those that the text says.
     ensures says { IfOk result (SaysSets source.now) }
-    // What they name is there, and their qubits agree.
+    // What they name is there, their qubits agree, and no list is long.
     ensures valid { IfOk result IsValidSets }
     // A fault is the text's first one.
     ensures fault { IfErr result (SetFaultOf source.now) }

@@ -2,6 +2,7 @@ pub mod TableLaws
 pub mod QubitLaws
 pub mod ValidSizes
 pub mod ExprLaws
+pub mod ShortLists
 pub mod CapLaws
 pub mod SizeLaws
 pub mod ToldLaws

@@ -1,4 +1,4 @@
--- When the sets of a file are valid: what they name is there, and their qubits agree.
+-- When the sets of a file are valid: what they name is there, their qubits agree, and none of its lists is long.
 use Rattle.std.specs.Prelude.{◌≡◌, ℕ, ◌^◌, ◌<◌, ◌≤◌, ◌++◌, List, All, length, map, nat_eq, slice_get, Some}
 use Rattle.std.specs.List.{IsDistinct}
 use Rattle.std.specs.Str.{bytes_eq}
@@ -23,6 +23,29 @@ pub record IsValidClaim (exprs : List Expr) (claim : NamedClaim) : Type 0 where
   pub there : All (λ c. c.set < length exprs) claim.cases
   pub equal : (n : ℕ) × All (λ c. (size_of exprs c.set).qubits ≡ n) claim.cases
 
+-- fewer than 2^32 members
+abbrev pub IsShort : {A : Type 0} → List A → Type 0
+IsShort xs = length xs < 2 ^ 32
+
+abbrev pub HasFewTerms : Expr → Type 0
+HasFewTerms (expr.Kets qubits terms) = IsShort terms
+HasFewTerms (expr.All qubits) = Unit {0}
+HasFewTerms (expr.Tensor left right) = Unit {0}
+HasFewTerms (expr.Union left right) = Unit {0}
+HasFewTerms (expr.Power base times) = Unit {0}
+
+-- few cases, and of each case few conditions
+pub record IsShortClaim (claim : NamedClaim) : Type 0 where
+  pub cases : IsShort claim.cases
+  pub conditions : All (λ c. IsShort c.when) claim.cases
+
+-- no list of terms, sets, claims, cases or conditions has 2^32 members or more
+pub record HasShortLists (s : Sets) : Type 0 where
+  pub terms : All HasFewTerms s.exprs
+  pub sets : IsShort s.sets
+  pub claims : IsShort s.claims
+  pub each_claim : All IsShortClaim s.claims
+
 pub record IsValidSets (s : Sets) : Type 0 where
   pub exprs : (i : ℕ) (e : Expr) → slice_get s.exprs i ≡ Some e → IsValidExpr s.exprs i e
   pub qubits : (i : ℕ) → i < length s.exprs → (0 < (size_of s.exprs i).qubits) × ((size_of s.exprs i).qubits ≤ most_qubits)
@@ -30,3 +53,4 @@ pub record IsValidSets (s : Sets) : Type 0 where
   pub claims : All (IsValidClaim s.exprs) s.claims
   pub names : IsDistinct bytes_eq (map (λ n. n.name) s.sets ++ map (λ n. n.name) s.claims)
   pub short : length s.exprs < 2 ^ 32
+  pub lists : HasShortLists s
