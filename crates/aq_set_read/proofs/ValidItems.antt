@@ -36,7 +36,7 @@ none_from None e = refl
 none_from (Some x) e = absurd cc
 
 -- a name that may be given is new
-naming-new : (name : SetWord) (g : Gathered) → Judged (λ u. named g.names name.text ≡ None) (naming name g)
+pub naming-new : (name : SetWord) (g : Gathered) → Judged (λ u. named g.names name.text ≡ None) (naming name g)
 unfolding naming
 naming-new name g =
     unless (λ u. named g.names name.text ≡ None) (nat_lt most_names (suc (length g.names))) (faults.TooManyNames name.at) (refuse_if (is_some (named g.names name.text)) (faults.TwiceNamed name.at)) tt (λ room.
@@ -155,7 +155,7 @@ pub record AreMade (g : Gathered) (count : ℕ) (s : Step (List Made)) : Type 0 
   pub made : AllByRecursion (IsMade s.gathered.exprs) s.value
   pub long : length s.value ≡ count
 
-cases_made-are : (g : Gathered) (made : List Made) (cases : List SetCase) (h : Gathered) → IsSound h → IsGrown g h → AllByRecursion (IsMade h.exprs) made
+pub cases_made-are : (g : Gathered) (made : List Made) (cases : List SetCase) (h : Gathered) → IsSound h → IsGrown g h → AllByRecursion (IsMade h.exprs) made
     → Judged (AreMade g (length made + length cases)) (cases_made made cases h)
 cases_made-are g made [] h sound grown are = record { sound = sound; grown = grown; made = are; long = omega arith }
 cases_made-are g made (c ∷ cs) h sound grown are =
@@ -165,7 +165,7 @@ cases_made-are g made (c ∷ cs) h sound grown are =
     subst (λ n. Judged (AreMade g n) (cases_made (made ++ s.value ∷ []) cs s.gathered)) (omega (arith, long))
     (cases_made-are g (made ++ s.value ∷ []) cs s.gathered fine.sound (grown_twice g h s.gathered grown fine.grown) (holds_behind (IsMade s.gathered.exprs) made s.value more fine.made)))
 
-same_qubits-same : (n : ℕ) (cases : List SetCase) (made : List Made) → length made ≡ length cases → Judged (λ u. AllByRecursion (λ (m : Made). m.qubits ≡ n) made) (same_qubits n cases made)
+pub same_qubits-same : (n : ℕ) (cases : List SetCase) (made : List Made) → length made ≡ length cases → Judged (λ u. AllByRecursion (λ (m : Made). m.qubits ≡ n) made) (same_qubits n cases made)
 same_qubits-same n [] [] e = tt
 same_qubits-same n [] (m ∷ ms) e = absurd (omega arith)
 same_qubits-same n (c ∷ cs) [] e = absurd (omega arith)
@@ -184,7 +184,7 @@ some_cases [] made e lt = absurd (omega (arith, e, lt))
 some_cases (c ∷ cs) [] e lt = lt
 some_cases (c ∷ cs) (m ∷ ms) e lt = omega arith
 
-first_qubits-some : (made : List Made) → Judged (λ n. 0 < length made) (first_qubits made)
+pub first_qubits-some : (made : List Made) → Judged (λ n. 0 < length made) (first_qubits made)
 first_qubits-some [] = tt
 first_qubits-some (m ∷ ms) = omega arith
 
@@ -202,7 +202,7 @@ claim-taken name cases g s absent are =
       cases_on = cases_of-on s.gathered.exprs n cases s.value are.made same;
     })))
 
-item-sound : (x : SetItem) (g : Gathered) → IsSound g → Judged IsSound (item_taken x g)
+pub item-sound : (x : SetItem) (g : Gathered) → IsSound g → Judged IsSound (item_taken x g)
 item-sound (items.Set name e) g sound =
     ahead (named g.names name.text ≡ None) IsSound (naming name g) (meaning e g >>= λ s. Ok (with_set name.text s)) (naming-new name g) (λ absent.
     follows (IsFine g) IsSound (meaning e g) (λ s. Ok (with_set name.text s)) (meaning-good e g sound) (λ s fine.
@@ -210,7 +210,7 @@ item-sound (items.Set name e) g sound =
 item-sound (items.Claim name cases) g sound =
     let rest = λ (s : Step (List Made)). first_qubits s.value >>= λ n. same_qubits n cases s.value >> Ok (with_claim name.text (cases_of cases s.value) s.gathered) in
     ahead (named g.names name.text ≡ None) IsSound (naming name g) (cases_made [] cases g >>= rest) (naming-new name g) (λ absent.
-    follows (AreMade g (0 + length cases)) IsSound (cases_made [] cases g) rest (cases_made-are g [] cases g sound (not_grown g g refl refl) tt) (λ s are.
+    follows (AreMade g (0 + length cases)) IsSound (cases_made [] cases g) rest (cases_made-are g [] cases g sound (not_grown g g.nodes) tt) (λ s are.
     claim-taken name cases g s absent (record { sound = are.sound; grown = are.grown; made = are.made; long = omega (arith, are.long) })))
 
 items-sound : (xs : List SetItem) (g : Gathered) → IsSound g → Judged IsSound (items_taken xs g)
@@ -219,7 +219,7 @@ items-sound (x ∷ xs) g sound = follows IsSound IsSound (item_taken x g) (items
 
 -- ---- the whole
 
-nothing-sound : IsSound nothing_gathered
+pub nothing-sound : IsSound nothing_gathered
 unfolding IsDistinct
 nothing-sound = record {
   exprs = record { valid = λ i e at. absurd cc; qubits = λ i lt. absurd (omega (arith, lt)) };

@@ -64,20 +64,25 @@ pub record IsSound (g : Gathered) : Type 0 where
 
 -- ---- grown
 
--- more expressions, and the same names
+-- more expressions, and the same names, sets and claims
 pub record IsGrown (before after : Gathered) : Type 0 where
   pub more : List Expr
   pub exprs : after.exprs ≡ before.exprs ++ more
   pub names : after.names ≡ before.names
+  pub sets : after.sets ≡ before.sets
+  pub claims : after.claims ≡ before.claims
 
-pub not_grown : (g h : Gathered) → h.exprs ≡ g.exprs → h.names ≡ g.names → IsGrown g h
-not_grown g h e n = record { more = []; exprs = e ∙ sym (append-nil g.exprs); names = n }
+-- more nodes alone
+pub not_grown : (g : Gathered) (nodes : ℕ) → IsGrown g (record { exprs = g.exprs; nodes = nodes; names = g.names; sets = g.sets; claims = g.claims })
+not_grown g nodes = record { more = []; exprs = sym (append-nil g.exprs); names = refl; sets = refl; claims = refl }
 
 pub grown_twice : (a b c : Gathered) → IsGrown a b → IsGrown b c → IsGrown a c
 grown_twice a b c g h = record {
   more = g.more ++ h.more;
   exprs = h.exprs ∙ ap (λ (es : List Expr). es ++ h.more) g.exprs ∙ append_assoc a.exprs g.more h.more;
   names = h.names ∙ g.names;
+  sets = h.sets ∙ g.sets;
+  claims = h.claims ∙ g.claims;
 }
 
 made-behind : (exprs more : List Expr) (m : Made) → IsMade exprs m → IsMade (exprs ++ more) m
@@ -178,7 +183,7 @@ pushed-fine g e qubits sound next few =
         few = omega (arith, few);
         names = named-behind g.exprs (e ∷ []) g.names g.sets g.claims sound.names;
       };
-      grown = record { more = e ∷ []; exprs = refl; names = refl };
+      grown = record { more = e ∷ []; exprs = refl; names = refl; sets = refl; claims = refl };
       made = record { there = omega (arith, long); qubits = ap (λ (s : Size). s.qubits) (size-last g.exprs e) ∙ next.is };
     }
 

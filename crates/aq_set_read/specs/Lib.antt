@@ -1,6 +1,7 @@
 pub mod Gathered
 pub mod Coefs
 pub mod Meaning
+pub mod Direct
 pub mod Bounds
 pub mod Parts
 pub mod Texts
