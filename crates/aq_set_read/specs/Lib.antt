@@ -2,6 +2,7 @@ pub mod Gathered
 pub mod Coefs
 pub mod Meaning
 pub mod Direct
+pub mod Standing
 pub mod Bounds
 pub mod Parts
 pub mod Texts

@@ -1,7 +1,8 @@
 ghost use Rattle.std.specs.Prelude.{◌≡◌, List, ℕ, Ok};
 ghost use Rattle.aq_set_parse.specs.declared.tree.SetTree.{SetTree};
 ghost use Rattle.aq_set_read.specs.Meaning.{sets_of};
-ghost use Rattle.aq_set_read.specs.Direct.{sets_meant, claims_meant, sets_at, claims_at};
+ghost use Rattle.aq_set_read.specs.Direct.{sets_meant, claims_meant};
+ghost use Rattle.aq_set_read.specs.Standing.{sets_at, claims_at};
 ghost use Rattle.aq_set_read.specs.Texts.{SaysSets, SetFaultOf};
 ghost use Rattle.aq_sets.specs.Valid.{IsValidSets};
 ghost use Rattle.aq_sets.specs.declared.sets.Sets.{Sets};
