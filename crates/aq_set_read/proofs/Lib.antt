@@ -7,4 +7,7 @@ mod ValidNodes
 mod ValidTerms
 mod ValidExprs
 mod ValidItems
+mod DirectNodes
+mod DirectExprs
+mod DirectItems
 mod TextsLaws

@@ -50,3 +50,8 @@ refusal false fault of = refl
 pub weaker : {A : Type 0} (P R : A → Type 0) (c : Checked A) → Judged P c → ((x : A) → P x → R x) → Judged R c
 weaker P R (Ok x) h k = k x h
 weaker P R (Err e) h k = h
+
+-- two things that hold of what is computed hold together
+pub both : {A : Type 0} (P R : A → Type 0) (c : Checked A) → Judged P c → Judged R c → Judged (λ x. P x × R x) c
+both P R (Ok x) p r = (p, r)
+both P R (Err e) p r = p

@@ -33,21 +33,21 @@ IsGoodOperand x = IsGood x.run
 made-few : (g : Gathered) (m : Made) → IsSound g → IsMade g.exprs m → IsFew m.qubits
 made-few g m sound made = subst IsFew made.qubits (sound.exprs.qubits m.expr made.there)
 
-all_made-good : (at : Place) (number : ℕ) → IsGood (all_made at number)
+pub all_made-good : (at : Place) (number : ℕ) → IsGood (all_made at number)
 unfolding all_made
 all_made-good at number g sound =
     node-fine at (out_of_range number) (expr.All number) number g sound (λ passed. record { valid = tt; is = refl; few = few-within number passed })
 
-name_made-good : (name : SetWord) → IsGood (name_made name)
+pub name_made-good : (name : SetWord) → IsGood (name_made name)
 unfolding name_made
 name_made-good name g sound = by (named g.names name.text) refl
   where
     by : (o : Option (Option Made)) → named g.names name.text ≡ o → Judged (IsFine g) (set_named name g o)
     by None e = tt
     by (Some None) e = tt
-    by (Some (Some m)) e = record { sound = sound; grown = not_grown g g refl refl; made = sound.names.made name.text m e }
+    by (Some (Some m)) e = record { sound = sound; grown = not_grown g g.nodes; made = sound.names.made name.text m e }
 
-powered-fine : (power : Option SetPower) (g : Gathered) (s : Step Made) → IsFine g s → Judged (IsFine g) (powered power s)
+pub powered-fine : (power : Option SetPower) (g : Gathered) (s : Step Made) → IsFine g s → Judged (IsFine g) (powered power s)
 unfolding size_of
 powered-fine None g s fine = fine
 powered-fine (Some p) g s fine =
@@ -59,10 +59,10 @@ powered-fine (Some p) g s fine =
 
 -- ---- chains
 
-abbrev IsGoodJoin : Join → Type 0
+abbrev pub IsGoodJoin : Join → Type 0
 IsGoodJoin join = (at : Place) (left right : Made) (g : Gathered) → IsSound g → IsMade g.exprs left → IsMade g.exprs right → Judged (IsFine g) (join at left right g)
 
-tensored-good : IsGoodJoin tensored
+pub tensored-good : IsGoodJoin tensored
 unfolding size_of
 tensored-good at left right g sound l r =
     let qubits = left.qubits + right.qubits in
@@ -71,7 +71,7 @@ tensored-good at left right g sound l r =
     let few = ltb-false most_qubits qubits passed in
     record { valid = (l.there, r.there); is = ap₂ (λ a b. a + b) l.qubits r.qubits; few = (omega (arith, some.0), few) })
 
-united-good : IsGoodJoin united
+pub united-good : IsGoodJoin united
 unfolding size_of
 united-good at left right g sound l r =
     node-fine at (not (left.qubits == right.qubits)) (expr.Union left.expr right.expr) left.qubits g sound (λ passed.

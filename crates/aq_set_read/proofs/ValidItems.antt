@@ -25,7 +25,7 @@ use Rattle.aq_sets.specs.declared.sets.Case.{Case}
 use Rattle.aq_sets.specs.declared.sets.NamedSet.{NamedSet}
 use Rattle.aq_sets.specs.declared.sets.NamedClaim.{NamedClaim}
 use Rattle.aq_set_read.specs.declared.set_fault.SetFault.TheVariants as faults
-use Rattle.aq_set_read.proofs.ValidChecks.{Judged, follows, ahead, unless, refusal, weaker}
+use Rattle.aq_set_read.proofs.ValidChecks.{Judged, follows, ahead, unless, refusal, weaker, both}
 use Rattle.aq_sets.proofs.ShortLists.{terms-short}
 use Rattle.aq_sets.proofs.ValidSizes.{holds_more, holds_behind, holds_between, distinct_between}
 use Rattle.aq_set_read.proofs.ValidNodes.{IsMade, IsCaseOn, IsSoundClaim, names_of, AreNamed, IsSound, IsGrown, not_grown, grown_twice, made-grown, IsFine}
@@ -48,6 +48,9 @@ naming-free name g =
     let le = ltb-false most_names (suc (length g.names)) room in
     weaker (λ u. is_some (named g.names name.text) ≡ false) (λ u. IsFree name.text g) (refuse_if (is_some (named g.names name.text)) (faults.TwiceNamed name.at))
     (refusal (is_some (named g.names name.text)) (faults.TwiceNamed name.at) tt) (λ u e. (none_from (named g.names name.text) e, omega (arith, le))))
+
+pub naming-new : (name : SetWord) (g : Gathered) → Judged (λ u. named g.names name.text ≡ None) (naming name g)
+naming-new name g = weaker (λ u. IsFree name.text g) (λ u. named g.names name.text ≡ None) (naming name g) (naming-free name g) (λ u free. free.0)
 
 -- where the names are the same, a name stays free
 free-grown : (name : List ℕ) (g h : Gathered) → IsGrown g h → IsFree name g → IsFree name h
@@ -175,7 +178,7 @@ pub record AreMade (g : Gathered) (count : ℕ) (s : Step (List Made)) : Type 0 
   pub made : AllByRecursion (IsMade s.gathered.exprs) s.value
   pub long : length s.value ≡ count
 
-cases_made-are : (g : Gathered) (made : List Made) (cases : List SetCase) (h : Gathered) → IsSound h → IsGrown g h → AllByRecursion (IsMade h.exprs) made
+pub cases_made-are : (g : Gathered) (made : List Made) (cases : List SetCase) (h : Gathered) → IsSound h → IsGrown g h → AllByRecursion (IsMade h.exprs) made
     → Judged (AreMade g (length made + length cases)) (cases_made made cases h)
 cases_made-are g made [] h sound grown are = record { sound = sound; grown = grown; made = are; long = omega arith }
 cases_made-are g made (c ∷ cs) h sound grown are =
@@ -185,7 +188,7 @@ cases_made-are g made (c ∷ cs) h sound grown are =
     subst (λ n. Judged (AreMade g n) (cases_made (made ++ s.value ∷ []) cs s.gathered)) (omega (arith, long))
     (cases_made-are g (made ++ s.value ∷ []) cs s.gathered fine.sound (grown_twice g h s.gathered grown fine.grown) (holds_behind (IsMade s.gathered.exprs) made s.value more fine.made)))
 
-same_qubits-same : (n : ℕ) (cases : List SetCase) (made : List Made) → length made ≡ length cases → Judged (λ u. AllByRecursion (λ (m : Made). m.qubits ≡ n) made) (same_qubits n cases made)
+pub same_qubits-same : (n : ℕ) (cases : List SetCase) (made : List Made) → length made ≡ length cases → Judged (λ u. AllByRecursion (λ (m : Made). m.qubits ≡ n) made) (same_qubits n cases made)
 same_qubits-same n [] [] e = tt
 same_qubits-same n [] (m ∷ ms) e = absurd (omega arith)
 same_qubits-same n (c ∷ cs) [] e = absurd (omega arith)
@@ -225,15 +228,15 @@ claim-short n lt name cases made h =
       conditions = All-from_recursion (λ (c : Case). IsShort c.when) (cases_of cases made) (conditions-short n lt cases made (recursion_from_All (IsShortCase n) cases h.1));
     }
 
-first_qubits-some : (made : List Made) → Judged (λ n. 0 < length made) (first_qubits made)
+pub first_qubits-some : (made : List Made) → Judged (λ n. 0 < length made) (first_qubits made)
 first_qubits-some [] = tt
 first_qubits-some (m ∷ ms) = omega arith
 
 -- ---- items
 
-claim-taken : (name : SetWord) (cases : List SetCase) (g : Gathered) (s : Step (List Made)) → IsFree name.text g → AreMade g (length cases) s → IsShortClaim (record { name = name.text; cases = cases_of cases s.value })
+claim-taken : (name : SetWord) (cases : List SetCase) (g : Gathered) (s : Step (List Made)) → IsFree name.text g → AreMade g (length cases) s
     → Judged IsSound (first_qubits s.value >>= λ n. same_qubits n cases s.value >> Ok (with_claim name.text (cases_of cases s.value) s.gathered))
-claim-taken name cases g s free are short =
+claim-taken name cases g s free are =
     let whole = Ok (with_claim name.text (cases_of cases s.value) s.gathered) in
     follows (λ n. 0 < length s.value) IsSound (first_qubits s.value) (λ n. same_qubits n cases s.value >> whole) (first_qubits-some s.value) (λ n some.
     ahead (AllByRecursion (λ (m : Made). m.qubits ≡ n) s.value) IsSound (same_qubits n cases s.value) whole (same_qubits-same n cases s.value are.long) (λ same.
@@ -241,29 +244,52 @@ claim-taken name cases g s free are short =
       some = some_cases cases s.value are.long some;
       qubits = n;
       cases_on = cases_of-on s.gathered.exprs n cases s.value are.made same;
-      short = short;
     })))
+
+pub item-sound : (x : SetItem) (g : Gathered) → IsSound g → Judged IsSound (item_taken x g)
+item-sound (items.Set name e) g sound =
+    ahead (IsFree name.text g) IsSound (naming name g) (meaning e g >>= λ s. Ok (with_set name.text s)) (naming-free name g) (λ free.
+    follows (IsFine g) IsSound (meaning e g) (λ s. Ok (with_set name.text s)) (meaning-good e g sound) (λ s fine.
+    set-sound name.text s fine.sound (free-grown name.text g s.gathered fine.grown free) fine.made))
+item-sound (items.Claim name cases) g sound =
+    let rest = λ (s : Step (List Made)). first_qubits s.value >>= λ n. same_qubits n cases s.value >> Ok (with_claim name.text (cases_of cases s.value) s.gathered) in
+    ahead (IsFree name.text g) IsSound (naming name g) (cases_made [] cases g >>= rest) (naming-free name g) (λ free.
+    follows (AreMade g (0 + length cases)) IsSound (cases_made [] cases g) rest (cases_made-are g [] cases g sound (not_grown g g.nodes) tt) (λ s are.
+    claim-taken name cases g s free (record { sound = are.sound; grown = are.grown; made = are.made; long = omega (arith, are.long) })))
+
+-- ---- short items
+
+abbrev AreShort : Gathered → Type 0
+AreShort g = AllByRecursion IsShortClaim g.claims
 
 -- of items that are short
 module _ (n : ℕ) (small : n < 2 ^ 32) where
-  item-sound : (x : SetItem) (g : Gathered) → IsShortItem n x → IsSound g → Judged IsSound (item_taken x g)
-  item-sound (items.Set name e) g short sound =
-      ahead (IsFree name.text g) IsSound (naming name g) (meaning e g >>= λ s. Ok (with_set name.text s)) (naming-free name g) (λ free.
-      follows (IsFine g) IsSound (meaning e g) (λ s. Ok (with_set name.text s)) (meaning-good e g sound) (λ s fine.
-      set-sound name.text s fine.sound (free-grown name.text g s.gathered fine.grown free) fine.made))
-  item-sound (items.Claim name cases) g short sound =
-      let rest = λ (s : Step (List Made)). first_qubits s.value >>= λ n. same_qubits n cases s.value >> Ok (with_claim name.text (cases_of cases s.value) s.gathered) in
-      ahead (IsFree name.text g) IsSound (naming name g) (cases_made [] cases g >>= rest) (naming-free name g) (λ free.
-      follows (AreMade g (0 + length cases)) IsSound (cases_made [] cases g) rest (cases_made-are g [] cases g sound (not_grown g g refl refl) tt) (λ s are.
-      claim-taken name cases g s free (record { sound = are.sound; grown = are.grown; made = are.made; long = omega (arith, are.long) }) (claim-short n small name.text cases s.value short)))
+  item-short : (x : SetItem) (g : Gathered) → IsShortItem n x → IsSound g → AreShort g → Judged AreShort (item_taken x g)
+  item-short (items.Set name e) g short sound few =
+      ahead (IsFree name.text g) AreShort (naming name g) (meaning e g >>= λ s. Ok (with_set name.text s)) (naming-free name g) (λ free.
+      follows (IsFine g) AreShort (meaning e g) (λ s. Ok (with_set name.text s)) (meaning-good e g sound) (λ s fine.
+      subst (AllByRecursion IsShortClaim) (sym fine.grown.claims) few))
+  item-short (items.Claim name cases) g short sound few =
+      let last = λ (s : Step (List Made)). Ok (with_claim name.text (cases_of cases s.value) s.gathered) in
+      let rest = λ (s : Step (List Made)). first_qubits s.value >>= λ q. same_qubits q cases s.value >> last s in
+      ahead (IsFree name.text g) AreShort (naming name g) (cases_made [] cases g >>= rest) (naming-free name g) (λ free.
+      follows (AreMade g (0 + length cases)) AreShort (cases_made [] cases g) rest (cases_made-are g [] cases g sound (not_grown g g.nodes) tt) (λ s are.
+      follows (λ q. 0 < length s.value) AreShort (first_qubits s.value) (λ q. same_qubits q cases s.value >> last s) (first_qubits-some s.value) (λ q some.
+      ahead (AllByRecursion (λ (m : Made). m.qubits ≡ q) s.value) AreShort (same_qubits q cases s.value) (last s) (same_qubits-same q cases s.value (omega (arith, are.long))) (λ same.
+      holds_behind IsShortClaim s.gathered.claims (record { name = name.text; cases = cases_of cases s.value })
+        (subst (AllByRecursion IsShortClaim) (sym are.grown.claims) few) (claim-short n small name.text cases s.value short)))))
 
-  items-sound : (xs : List SetItem) (g : Gathered) → AllByRecursion (IsShortItem n) xs → IsSound g → Judged IsSound (items_taken xs g)
-  items-sound [] g short sound = sound
-  items-sound (x ∷ xs) g short sound = follows IsSound IsSound (item_taken x g) (items_taken xs) (item-sound x g short.0 sound) (λ h next. items-sound xs h short.1 next)
+  items-fine : (xs : List SetItem) (g : Gathered) → AllByRecursion (IsShortItem n) xs → IsSound g → AreShort g
+      → Judged (λ h. IsSound h × AreShort h) (items_taken xs g)
+  items-fine [] g short sound few = (sound, few)
+  items-fine (x ∷ xs) g short sound few =
+      follows (λ h. IsSound h × AreShort h) (λ h. IsSound h × AreShort h) (item_taken x g) (items_taken xs)
+      (both IsSound AreShort (item_taken x g) (item-sound x g sound) (item-short x g short.0 sound few))
+      (λ h is. items-fine xs h short.1 is.0 is.1)
 
 -- ---- the whole
 
-nothing-sound : IsSound nothing_gathered
+pub nothing-sound : IsSound nothing_gathered
 unfolding IsDistinct
 nothing-sound = record {
   exprs = record { valid = λ i e at. absurd cc; qubits = λ i lt. absurd (omega (arith, lt)) };
@@ -281,28 +307,28 @@ claim-valid exprs claim h = record {
 }
 
 -- sets and claims have names, of which there are few
-gathered-short : (g : Gathered) → IsSound g → HasShortLists (sets_in g)
-gathered-short g sound = record {
+gathered-short : (g : Gathered) → IsSound g → AreShort g → HasShortLists (sets_in g)
+gathered-short g sound few = record {
   terms = terms-short g.exprs sound.exprs.valid sound.exprs.qubits;
   sets = omega (arith, sound.names.counted, sound.few_names);
   claims = omega (arith, sound.names.counted, sound.few_names);
-  each_claim = All-from_recursion IsShortClaim g.claims (holds_more (IsSoundClaim g.exprs) IsShortClaim (λ claim is. is.short) g.claims sound.names.claims_sound);
+  each_claim = All-from_recursion IsShortClaim g.claims few;
 }
 
-gathered-valid : (g : Gathered) → IsSound g → IsValidSets (sets_in g)
-gathered-valid g sound = record {
+gathered-valid : (g : Gathered) → IsSound g → AreShort g → IsValidSets (sets_in g)
+gathered-valid g sound few = record {
   exprs = sound.exprs.valid;
   qubits = sound.exprs.qubits;
   sets = All-from_recursion (λ (n : NamedSet). n.expr < length g.exprs) g.sets sound.names.sets_there;
   claims = All-from_recursion (IsValidClaim g.exprs) g.claims (holds_more (IsSoundClaim g.exprs) (IsValidClaim g.exprs) (claim-valid g.exprs) g.claims sound.names.claims_sound);
   names = sound.names.distinct;
   short = omega (arith, sound.counted, sound.few);
-  lists = gathered-short g sound;
+  lists = gathered-short g sound few;
 }
 
 -- a tree that is short means sets that are valid
 pub sets_of-valid : (n : ℕ) (tree : SetTree) → n < 2 ^ 32 → IsShortTree n tree → Judged IsValidSets (sets_of tree)
 unfolding sets_of
 sets_of-valid n tree small short =
-    follows IsSound IsValidSets (items_taken tree.items nothing_gathered) (λ g. Ok (sets_in g))
-    (items-sound n small tree.items nothing_gathered (recursion_from_All (IsShortItem n) tree.items short) nothing-sound) gathered-valid
+    follows (λ g. IsSound g × AreShort g) IsValidSets (items_taken tree.items nothing_gathered) (λ g. Ok (sets_in g))
+    (items-fine n small tree.items nothing_gathered (recursion_from_All (IsShortItem n) tree.items short) nothing-sound tt) (λ g is. gathered-valid g is.0 is.1)

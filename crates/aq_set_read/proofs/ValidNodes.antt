@@ -13,7 +13,7 @@ use Rattle.aq_set_read.specs.Gathered.{Gathered, Checked, counted, named}
 use Rattle.aq_sets.specs.Tables.{table}
 use Rattle.aq_sets.specs.Sizes.{Size, size_step, size_of}
 use Rattle.aq_set_read.specs.Meaning.{Step, out_of_range, with_expr, node}
-use Rattle.aq_sets.specs.Valid.{IsShortClaim, IsValidExpr}
+use Rattle.aq_sets.specs.Valid.{IsValidExpr}
 use Rattle.aq_set_read.specs.declared.made.Made.{Made}
 use Rattle.aq_sets.specs.declared.sets.Expr.{Expr}
 use Rattle.aq_sets.specs.declared.sets.Case.{Case}
@@ -44,7 +44,6 @@ pub record IsSoundClaim (exprs : List Expr) (claim : NamedClaim) : Type 0 where
   pub some : 0 < length claim.cases
   pub qubits : ℕ
   pub cases_on : AllByRecursion (IsCaseOn exprs qubits) claim.cases
-  pub short : IsShortClaim claim
 
 abbrev pub names_of : List NamedSet → List NamedClaim → List (List ℕ)
 names_of sets claims = map (λ (s : NamedSet). s.name) sets ++ map (λ (c : NamedClaim). c.name) claims
@@ -68,20 +67,25 @@ pub record IsSound (g : Gathered) : Type 0 where
 
 -- ---- grown
 
--- more expressions, and the same names
+-- more expressions, and the same names, sets and claims
 pub record IsGrown (before after : Gathered) : Type 0 where
   pub more : List Expr
   pub exprs : after.exprs ≡ before.exprs ++ more
   pub names : after.names ≡ before.names
+  pub sets : after.sets ≡ before.sets
+  pub claims : after.claims ≡ before.claims
 
-pub not_grown : (g h : Gathered) → h.exprs ≡ g.exprs → h.names ≡ g.names → IsGrown g h
-not_grown g h e n = record { more = []; exprs = e ∙ sym (append-nil g.exprs); names = n }
+-- more nodes alone
+pub not_grown : (g : Gathered) (nodes : ℕ) → IsGrown g (record { exprs = g.exprs; nodes = nodes; names = g.names; sets = g.sets; claims = g.claims })
+not_grown g nodes = record { more = []; exprs = sym (append-nil g.exprs); names = refl; sets = refl; claims = refl }
 
 pub grown_twice : (a b c : Gathered) → IsGrown a b → IsGrown b c → IsGrown a c
 grown_twice a b c g h = record {
   more = g.more ++ h.more;
   exprs = h.exprs ∙ ap (λ (es : List Expr). es ++ h.more) g.exprs ∙ append_assoc a.exprs g.more h.more;
   names = h.names ∙ g.names;
+  sets = h.sets ∙ g.sets;
+  claims = h.claims ∙ g.claims;
 }
 
 made-behind : (exprs more : List Expr) (m : Made) → IsMade exprs m → IsMade (exprs ++ more) m
@@ -103,7 +107,6 @@ claim-behind exprs more claim h = record {
   some = h.some;
   qubits = h.qubits;
   cases_on = holds_more (IsCaseOn exprs h.qubits) (IsCaseOn (exprs ++ more) h.qubits) (case-behind exprs more h.qubits) claim.cases h.cases_on;
-  short = h.short;
 }
 
 named-behind : (exprs more : List Expr) (names : List (List ℕ × Option Made)) (sets : List NamedSet) (claims : List NamedClaim) → AreNamed exprs names sets claims → AreNamed (exprs ++ more) names sets claims
@@ -185,7 +188,7 @@ pushed-fine g e qubits sound next few =
         names = named-behind g.exprs (e ∷ []) g.names g.sets g.claims sound.names;
         few_names = sound.few_names;
       };
-      grown = record { more = e ∷ []; exprs = refl; names = refl };
+      grown = record { more = e ∷ []; exprs = refl; names = refl; sets = refl; claims = refl };
       made = record { there = omega (arith, long); qubits = ap (λ (s : Size). s.qubits) (size-last g.exprs e) ∙ next.is };
     }
 

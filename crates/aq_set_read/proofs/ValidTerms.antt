@@ -1,5 +1,5 @@
 -- A bracket that is put together is valid: its terms have different indices, each below 2 to the number of its qubits.
-use Rattle.std.proofs.Common.{◌≡◌, ℕ, ◌+◌, ◌*◌, ◌^◌, ◌<◌, ◌≤◌, ◌==◌, Bool, true, false, not, nat_lt, nat_eq, List, [], ◌∷◌, map, length, Ok, refl, sym, subst, ◌∙◌, arith}
+use Rattle.std.proofs.Common.{◌≡◌, ℕ, suc, ◌+◌, ◌*◌, ◌^◌, ◌<◌, ◌≤◌, ◌==◌, Bool, true, false, not, nat_lt, nat_eq, List, [], ◌∷◌, map, length, Ok, refl, sym, subst, ◌∙◌, arith}
 use Rattle.std.specs.Prelude.{if◌then◌else◌}
 use Rattle.std.specs.List.{AllByRecursion, IsDistinct, fold}
 use Rattle.std.proofs.lemmas.Bool.{eqb-true, not-false}
@@ -63,7 +63,7 @@ one_taken : (n : ℕ) (earlier : List Term) (t : SetTerm) (g : Gathered) → IsS
     → AreTaken n (length earlier + 1) g (step (one_node_more g) (term_behind earlier t))
 one_taken n earlier t g sound terms fits new few = record {
   sound = counted-sound g sound few;
-  grown = not_grown g (one_node_more g) refl refl;
+  grown = not_grown g (suc g.nodes);
   terms = record {
     below = holds_behind (λ (x : Term). x.index < 2 ^ n) earlier (term_of t) terms.below (subst (λ m. index_of t < 2 ^ m) fits (binary-below (digits_of t.ket.text)));
     distinct = subst (IsDistinct nat_eq) (sym (map-append (λ (x : Term). x.index) earlier (term_of t ∷ [])))
@@ -86,7 +86,7 @@ term-taken n earlier t g sound terms =
     counted-judged R t.ket.at g (λ h. Ok (step h (term_behind earlier t))) (one_taken n earlier t g sound terms (eqb-true (ket_length t) n (not-false (ket_length t == n) fits)) new)))))
 
 terms-taken : (n : ℕ) (earlier : List Term) (ts : List SetTerm) (g : Gathered) → IsSound g → AreTerms n earlier → Judged (AreTaken n (length earlier + length ts) g) (terms_taken n earlier ts g)
-terms-taken n earlier [] g sound terms = record { sound = sound; grown = not_grown g g refl refl; terms = terms; long = omega arith }
+terms-taken n earlier [] g sound terms = record { sound = sound; grown = not_grown g g.nodes; terms = terms; long = omega arith }
 terms-taken n earlier (t ∷ ts) g sound terms =
     follows (AreTaken n (length earlier + 1) g) (AreTaken n (length earlier + length (t ∷ ts)) g) (term_taken n earlier t g) (λ s. terms_taken n s.value ts s.gathered)
     (term-taken n earlier t g sound terms) (λ s taken.

@@ -1,6 +1,8 @@
 pub mod Gathered
 pub mod Coefs
 pub mod Meaning
+pub mod Direct
+pub mod Standing
 pub mod Bounds
 pub mod Parts
 pub mod Texts

@@ -22,6 +22,6 @@ mod set_fault;
 
 pub use aq_set_parse::{SetLexFault, SetParseFault};
 pub use aq_sets::{Case, Cond, Expr, NamedClaim, NamedSet, Sets, Term, qubits, qubits_of_all};
-pub use laws::set_files;
+pub use laws::{set_files, set_meaning};
 pub use read::read_sets;
 pub use set_fault::SetFault;
