@@ -163,7 +163,7 @@ cases_made-stand known made (c ∷ cs) g sound knows are =
     let h = s.gathered in
     let stay = holds_more (IsMade g.exprs) (IsMade h.exprs) (λ x. made-grown g h x m.fine.grown) made are in
     let both : mades_at h.exprs (made ++ s.value ∷ []) ≡ mades_at g.exprs made ++ meant known c.expr ∷ [] =
-        map-append (made_at h.exprs) made (s.value ∷ []) ∙ ap₂ (λ (xs : List Meant) (x : Meant). xs ++ x ∷ []) (mades-stay g h m.fine.grown made are) m.is in
+    map-append (made_at h.exprs) made (s.value ∷ []) ∙ ap₂ (λ (xs : List Meant) (x : Meant). xs ++ x ∷ []) (mades-stay g h m.fine.grown made are) m.is in
     weaker (λ r. mades_at r.gathered.exprs r.value ≡ mades_at h.exprs (made ++ s.value ∷ []) ++ cases_told known cs) R (cases_made (made ++ s.value ∷ []) cs h)
     (cases_made-stand known (made ++ s.value ∷ []) cs h m.fine.sound (knows-grown known g h sound m.fine.grown knows) (holds_behind (IsMade h.exprs) made s.value stay m.fine.made))
     (λ r e. e ∙ ap (λ (xs : List Meant). xs ++ cases_told known cs) both ∙ append_assoc (mades_at g.exprs made) (meant known c.expr ∷ []) (cases_told known cs)))

@@ -277,7 +277,7 @@ module _ (n : ℕ) (small : n < 2 ^ 32) where
       follows (λ q. 0 < length s.value) AreShort (first_qubits s.value) (λ q. same_qubits q cases s.value >> last s) (first_qubits-some s.value) (λ q some.
       ahead (AllByRecursion (λ (m : Made). m.qubits ≡ q) s.value) AreShort (same_qubits q cases s.value) (last s) (same_qubits-same q cases s.value (omega (arith, are.long))) (λ same.
       holds_behind IsShortClaim s.gathered.claims (record { name = name.text; cases = cases_of cases s.value })
-        (subst (AllByRecursion IsShortClaim) (sym are.grown.claims) few) (claim-short n small name.text cases s.value short)))))
+      (subst (AllByRecursion IsShortClaim) (sym are.grown.claims) few) (claim-short n small name.text cases s.value short)))))
 
   items-fine : (xs : List SetItem) (g : Gathered) → AllByRecursion (IsShortItem n) xs → IsSound g → AreShort g
       → Judged (λ h. IsSound h × AreShort h) (items_taken xs g)
