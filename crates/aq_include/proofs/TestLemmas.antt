@@ -4,6 +4,7 @@ use Rattle.aq_store.specs.declared.node.Node.{Node}
 use Rattle.aq_store.specs.declared.lsta.Lsta.{Lsta}
 use Rattle.aq_store.specs.Nodes.{EachPair, Extends, HasShape, FitsStore}
 use Rattle.aq_cert.specs.Goals.{FitTogether}
+use Rattle.aq_store.proofs.ShapeLemmas.{EachPair-none, EachPair-more}
 use Rattle.aq_store.proofs.TableLemmas.{slice_get-push, EachPair-map, HasShape-Extends}
 
 each-push : (P : ℕ → Type 0) (ps new : List (ℕ × ℕ)) (a b : ℕ) → EachPair P ps → P a → P b → new ≡ ps ++ (a, b) ∷ [] → EachPair P new
@@ -21,6 +22,32 @@ module _ {L : Type 0} where
       → EachPair (HasShape new []) more
   leaves-push old new ps more a b keeps h x y is =
       each-push (HasShape new []) ps more a b (EachPair-map (HasShape old []) (HasShape new []) ps (λ i k. HasShape-Extends old new keeps [] i k) h) x y is
+
+  -- the roots of two automata with one choice
+  pub two-roots : (a b : List (Node L)) (left right : Lsta) (ps : List (ℕ × ℕ)) → FitsStore a left → Extends a b → FitsStore b right → left.shape.items ≡ 1 ∷ [] → right.shape.items ≡ 1 ∷ []
+      → ps ≡ (left.root, right.root) ∷ [] → EachPair (HasShape b (1 ∷ [])) ps
+  two-roots a b left right ps l e r one two is =
+      let first : HasShape a (1 ∷ []) left.root = subst (λ s. HasShape a s left.root) one l in
+      let second : HasShape b (1 ∷ []) right.root = subst (λ s. HasShape b s right.root) two r in
+      subst (EachPair (HasShape b (1 ∷ []))) (sym is)
+      (EachPair-more (HasShape b (1 ∷ [])) left.root right.root [] (HasShape-Extends a b e (1 ∷ []) left.root first) second (EachPair-none (HasShape b (1 ∷ []))))
+
+  -- two automata of two levels, made one after the other
+  pub fit-one : (a t : List (Node L)) (left goal : Lsta) (goals : List Lsta) → FitsStore a left → Extends a t → FitsStore t goal
+      → length left.shape.items ≡ 2 → length goal.shape.items ≡ 2 → goals ≡ goal ∷ [] → FitTogether t left goals
+  fit-one a t left goal goals l e g one two is = subst (FitTogether t left) (sym is) (record {
+    left_fits = HasShape-Extends a t e left.shape.items left.root l;
+    goals_fit = fits;
+    one_length = lengths;
+  })
+    where
+      fits : (k : ℕ) (other : Lsta) → slice_get (goal ∷ []) k ≡ Some other → FitsStore t other
+      fits zero other e = (let same : goal ≡ other = cc in subst (FitsStore t) same g)
+      fits (suc k) other e = cc
+
+      lengths : (k : ℕ) (other : Lsta) → slice_get (goal ∷ []) k ≡ Some other → length other.shape.items ≡ length left.shape.items
+      lengths zero other e = (let same : goal ≡ other = cc in subst (λ (z : Lsta). length z.shape.items ≡ length left.shape.items) same (two ∙ sym one))
+      lengths (suc k) other e = cc
 
   -- three automata of one level, made one after the other
   pub fit-two : (a b t : List (Node L)) (left first second : Lsta) (goals : List Lsta) → FitsStore a left → Extends a b → FitsStore b first → Extends b t → FitsStore t second

@@ -49,8 +49,8 @@ fn root_macro(alloc: Global, left: &Lsta, goals: &[Lsta]) -> Result<Macro, Alloc
 
 /// Whether each nonzero vector of the left is proportional to a vector of a goal. All fit the store and have as many
 /// levels. Included comes with a valid certificate, and Escapes has the least word whose vector isn't zero and has no
-/// match. A step is counted for each member of a domain and each pair that a choice leads on, and for each pair whose
-/// labels are compared.
+/// match. A step is counted for each member of a domain and each pair that a choice leads on, of a relation that relates
+/// no words up to the pair that shows it, and for each pair whose labels are compared.
 ///
 /// `Spent` comes only where `search_budget` is more steps than are left, and `WideParts` only with an entry of a left
 /// vector and one of a goal's whose product doesn't fit. `Wide` never comes. `Memory` may come at any time.

@@ -45,6 +45,7 @@ returns c =
     record {
       fits = subst (λ s. HasShape r s c.in_ok-root.root) shape (shape_node r [] c.in_ok-root.root c.as_slice.result.now c.in_ok-root.ensures.adds.here some pairs);
       level = ap (λ (l : List ℕ). length l) (sym shape);
+      shape = sym shape ∙ ap (λ n. n ∷ []) count;
       keeps = extends-then c.args.store.now c.loop-vector.store r c.loop-vector.invariant.keeps c.node.ensures.keeps;
       paid = c.node.ensures.paid;
     }
