@@ -27,7 +27,9 @@ pub fn set_files()
 /// The vectors at the positions of a file's sets and cases are what its tree means directly. It does nothing.
 pub fn set_meaning()
     // The sets, in order: each name with its vectors and their number of qubits.
-    ensures sets { (tree : SetTree) (sets : Sets) → sets_of tree ≡ Ok sets → sets_at sets ≡ sets_meant tree.items }
-    // The claims, in order: each name with its cases, and of each its conditions, its vectors and their number of qubits.
-    ensures claims { (tree : SetTree) (sets : Sets) → sets_of tree ≡ Ok sets → claims_at sets ≡ claims_meant tree.items }
+    ensures sets { (tree : SetTree) (sets : Sets) → sets_of tree ≡ Ok sets →
+        sets_at sets ≡ sets_meant tree.items }
+    // The claims, in order: each name with its cases, of each its conditions, vectors and number of qubits.
+    ensures claims { (tree : SetTree) (sets : Sets) → sets_of tree ≡ Ok sets →
+        claims_at sets ≡ claims_meant tree.items }
 {}
