@@ -2,7 +2,7 @@ ghost use Rattle.std.specs.Prelude.{◌≡◌, List, ℕ, Ok};
 ghost use Rattle.aq_set_parse.specs.declared.tree.SetTree.{SetTree};
 ghost use Rattle.aq_set_read.specs.Meaning.{sets_of};
 ghost use Rattle.aq_set_read.specs.Direct.{sets_meant, claims_meant};
-ghost use Rattle.aq_set_read.specs.Standing.{sets_at, claims_at};
+ghost use Rattle.aq_set_read.specs.Standing.{sets_at, claims_at, MeansSets};
 ghost use Rattle.aq_set_read.specs.Texts.{SaysSets, SetFaultOf};
 ghost use Rattle.aq_sets.specs.Valid.{IsValidSets};
 ghost use Rattle.aq_sets.specs.declared.sets.Sets.{Sets};
@@ -32,4 +32,6 @@ pub fn set_meaning()
     // The claims, in order: each name with its cases, of each its conditions, vectors and number of qubits.
     ensures claims { (tree : SetTree) (sets : Sets) → sets_of tree ≡ Ok sets →
         claims_at sets ≡ claims_meant tree.items }
+    // Both for the sets and claims that a text says.
+    ensures texts { (text : List ℕ) (sets : Sets) → SaysSets text sets → MeansSets text sets }
 {}
