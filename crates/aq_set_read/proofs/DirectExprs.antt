@@ -1,5 +1,5 @@
 -- Each expression that is put together stands for what its tree means directly: by induction over the tree.
-use Rattle.std.proofs.Common.{◌≡◌, ℕ, ◌+◌, ◌*◌, ◌==◌, not, nat_lt, List, [], ◌∷◌, ◌++◌, map, length, Option, Some, None, Ok, Err, refl, sym, ap, ap₂, subst, ◌∙◌}
+use Rattle.std.proofs.Common.{◌≡◌, ℕ, ◌+◌, ◌*◌, ◌==◌, not, nat_lt, List, [], ◌∷◌, ◌++◌, map, Option, Some, None, Ok, Err, refl, sym, ap, ap₂, subst, ◌∙◌}
 use Rattle.std.specs.List.{fold}
 use Rattle.std.specs.Map.{lookup}
 use Rattle.std.specs.Option.{unwrap_or}
@@ -28,7 +28,7 @@ use Rattle.aq_sets.specs.declared.sets.Expr.{Expr}
 use Rattle.aq_sets.specs.declared.sets.Expr.TheVariants as expr
 use Rattle.aq_set_read.specs.declared.set_fault.SetFault.TheVariants as faults
 use Rattle.aq_set_read.proofs.ValidChecks.{Judged, follows, unless, weaker}
-use Rattle.aq_set_read.proofs.ValidNodes.{IsMade, IsSound, IsGrown, grown_twice, made-grown, IsFine, one_node_more, counted-judged}
+use Rattle.aq_set_read.proofs.ValidNodes.{IsSound, IsGrown, grown_twice, made-grown, IsFine, counted-judged}
 use Rattle.aq_set_read.proofs.ValidTerms.{bracket_made-fine}
 use Rattle.aq_set_read.proofs.ValidExprs.{all_made-good, name_made-good, powered-fine, IsGoodJoin, tensored-good, united-good}
 use Rattle.aq_set_read.proofs.DirectNodes.{made_at, made-stays, StandsFor, node-stands, product-behind, union-behind, power-behind}
@@ -56,7 +56,8 @@ terms-are n earlier (t ∷ ts) g =
     weaker (λ r. r.value ≡ s.value ++ map term_of ts) (λ r. r.value ≡ earlier ++ map term_of (t ∷ ts)) (terms_taken n s.value ts s.gathered)
     (terms-are n s.value ts s.gathered) (λ r more. more ∙ ap (λ (xs : List Term). xs ++ map term_of ts) is ∙ append_assoc earlier (term_of t ∷ []) (map term_of ts)))
 
-bracket-stands : (at : Place) (terms : List SetTerm) (g : Gathered) → Judged (StandsFor (denoted (bracket_qubits terms) (kets_vector (bracket_qubits terms) (map term_of terms) ∷ []))) (bracket_made at terms g)
+bracket-stands : (at : Place) (terms : List SetTerm) (g : Gathered)
+    → Judged (StandsFor (denoted (bracket_qubits terms) (kets_vector (bracket_qubits terms) (map term_of terms) ∷ []))) (bracket_made at terms g)
 unfolding bracket_made
 bracket-stands at terms g =
     let n = bracket_qubits terms in
@@ -150,7 +151,8 @@ module _ (known : Known) where
   AreDirect (x ∷ xs) (d ∷ ds) = IsDirect d x.run × AreDirect xs ds
 
   module _ (join : Join) (combine : Meant → Meant → Meant) (good : IsGoodJoin join) (direct : IsDirectJoin join combine) where
-    joined-direct : (xs : List Operand) (ds : List Meant) → AreDirect xs ds → (d : Meant) (g : Gathered) (s : Step Made) → IsMeant d g s → Knows known s.gathered → Judged (IsMeant (fold combine d ds) g) (joined join xs s)
+    joined-direct : (xs : List Operand) (ds : List Meant) → AreDirect xs ds → (d : Meant) (g : Gathered) (s : Step Made) → IsMeant d g s → Knows known s.gathered
+        → Judged (IsMeant (fold combine d ds) g) (joined join xs s)
     joined-direct [] [] h d g s m knows = m
     joined-direct [] (e ∷ ds) h d g s m knows = absurd h
     joined-direct (x ∷ xs) [] h d g s m knows = absurd h
@@ -158,7 +160,8 @@ module _ (known : Known) where
         let whole = fold combine d (e ∷ ds) in
         follows (IsMeant e s.gathered) (IsMeant whole g) (x.run s.gathered) (λ r. join x.at s.value r.value r.gathered >>= joined join xs) (h.0 s.gathered m.fine.sound knows) (λ r next.
         let left = made-grown s.gathered r.gathered s.value next.fine.grown m.fine.made in
-        let is : combine (made_at r.gathered.exprs s.value) (made_at r.gathered.exprs r.value) ≡ combine d e = ap₂ combine (made-stays s.gathered r.gathered s.value next.fine.grown m.fine.made ∙ m.is) next.is in
+        let is : combine (made_at r.gathered.exprs s.value) (made_at r.gathered.exprs r.value) ≡ combine d e =
+        ap₂ combine (made-stays s.gathered r.gathered s.value next.fine.grown m.fine.made ∙ m.is) next.is in
         follows (IsMeant (combine d e) r.gathered) (IsMeant whole g) (join x.at s.value r.value r.gathered) (joined join xs)
         (meant-from (combine d e) r.gathered (join x.at s.value r.value r.gathered) (good x.at s.value r.value r.gathered next.fine.sound left next.fine.made)
         (subst (λ (z : Meant). Judged (StandsFor z) (join x.at s.value r.value r.gathered)) is (direct x.at s.value r.value r.gathered))) (λ z both.

@@ -12,7 +12,6 @@ use Rattle.aq_set_read.specs.Meaning.{Step, meaning, cases_made, same_qubits, fi
 use Rattle.aq_set_read.specs.Direct.{Meant, Known, meant, MeantCase, case_meant, known_behind, sets_meant, Said, claims_behind, claims_meant}
 use Rattle.aq_set_read.specs.Standing.{denoted_at, case_at, sets_at, claims_at}
 use Rattle.aq_set_read.specs.declared.made.Made.{Made}
-use Rattle.aq_set_parse.specs.declared.tree.SetWord.{SetWord}
 use Rattle.aq_set_parse.specs.declared.tree.SetCase.{SetCase}
 use Rattle.aq_set_parse.specs.declared.tree.SetItem.{SetItem}
 use Rattle.aq_set_parse.specs.declared.tree.SetItem.TheVariants as items
@@ -35,7 +34,8 @@ abbrev or_else : {A : Type 0} → Option A → Option A → Option A
 or_else None y = y
 or_else (Some x) y = Some x
 
-lookup-push : (known : Known) (key : List ℕ) (d : Meant) (name : List ℕ) → lookup (bytes_eq name) (known ++ (key, d) ∷ []) ≡ or_else (lookup (bytes_eq name) known) (cond (bytes_eq name key) (Some d) None)
+lookup-push : (known : Known) (key : List ℕ) (d : Meant) (name : List ℕ)
+    → lookup (bytes_eq name) (known ++ (key, d) ∷ []) ≡ or_else (lookup (bytes_eq name) known) (cond (bytes_eq name key) (Some d) None)
 lookup-push [] key d name = refl
 lookup-push (entry ∷ rest) key d name = by (bytes_eq name entry.0) (lookup-push rest key d name)
   where
@@ -44,7 +44,8 @@ lookup-push (entry ∷ rest) key d name = by (bytes_eq name entry.0) (lookup-pus
     by true e = refl
     by false e = e
 
-named-push : (names : List (List ℕ × Option Made)) (key : List ℕ) (made : Option Made) (name : List ℕ) → named (names ++ (key, made) ∷ []) name ≡ or_else (named names name) (cond (bytes_eq name key) (Some made) None)
+named-push : (names : List (List ℕ × Option Made)) (key : List ℕ) (made : Option Made) (name : List ℕ)
+    → named (names ++ (key, made) ∷ []) name ≡ or_else (named names name) (cond (bytes_eq name key) (Some made) None)
 named-push [] key made name = refl
 named-push (entry ∷ rest) key made name = by (bytes_eq name entry.0) (named-push rest key made name)
   where
@@ -59,7 +60,8 @@ named-equal [] name other e = refl
 named-equal (entry ∷ rest) name other e =
     ap₂ (λ (b : Bool) (o : Option (Option Made)). if b then Some entry.1 else o) (nat_list_eq_equiv.congr name other entry.0 e) (named-equal rest name other e)
 
-knows-set : (known : Known) (name : List ℕ) (d : Meant) (s : Step Made) → Knows known s.gathered → named s.gathered.names name ≡ None → StandsFor d s → Knows (known ++ (name, d) ∷ []) (with_set name s)
+knows-set : (known : Known) (name : List ℕ) (d : Meant) (s : Step Made) → Knows known s.gathered → named s.gathered.names name ≡ None → StandsFor d s
+    → Knows (known ++ (name, d) ∷ []) (with_set name s)
 knows-set known name d s knows absent is other =
     let g = s.gathered in
     lookup-push known name d other
@@ -67,7 +69,8 @@ knows-set known name d s knows absent is other =
     ∙ by (named g.names other) (bytes_eq other name) (λ b. named-equal g.names other name b ∙ absent)
     ∙ ap (made_known g.exprs) (sym (named-push g.names name (Some s.value) other))
   where
-    by : (o : Option (Option Made)) (b : Bool) → (b ≡ true → o ≡ None) → or_else (made_known s.gathered.exprs o) (cond b (Some d) None) ≡ made_known s.gathered.exprs (or_else o (cond b (Some (Some s.value)) None))
+    by : (o : Option (Option Made)) (b : Bool) → (b ≡ true → o ≡ None)
+        → or_else (made_known s.gathered.exprs o) (cond b (Some d) None) ≡ made_known s.gathered.exprs (or_else o (cond b (Some (Some s.value)) None))
     by None true h = ap Some (sym is)
     by None false h = refl
     by (Some None) true h = absurd (let e = h refl in cc)
@@ -174,7 +177,8 @@ heads x y xs ys e = (cc, cc)
 abbrev told_with : SetCase → Meant → MeantCase
 told_with c d = record { when = map cond_of c.when; set = d }
 
-cases_of-stand : (exprs : List Expr) (known : Known) (cases : List SetCase) (made : List Made) → mades_at exprs made ≡ cases_told known cases → map (case_at exprs) (cases_of cases made) ≡ map (case_meant known) cases
+cases_of-stand : (exprs : List Expr) (known : Known) (cases : List SetCase) (made : List Made) → mades_at exprs made ≡ cases_told known cases
+    → map (case_at exprs) (cases_of cases made) ≡ map (case_meant known) cases
 cases_of-stand exprs known [] [] e = refl
 cases_of-stand exprs known [] (m ∷ ms) e = refl
 cases_of-stand exprs known (c ∷ cs) [] e = absurd cc
@@ -213,7 +217,8 @@ item-told (items.Claim name cases) known said g sound told =
     let long : length s.value ≡ length cases = omega (arith, are.0.long) in
     follows (λ n. 0 < length s.value) R (first_qubits s.value) (λ n. same_qubits n cases s.value >> last s) (first_qubits-some s.value) (λ n some.
     ahead (AllByRecursion (λ (m : Made). m.qubits ≡ n) s.value) R (same_qubits n cases s.value) (last s) (same_qubits-same n cases s.value long) (λ equal.
-    claim-told known said name.text (cases_of cases s.value) means s.gathered (told-grown known said g s.gathered sound are.0.grown told) (cases_of-stand s.gathered.exprs known cases s.value are.1)))))
+    claim-told known said name.text (cases_of cases s.value) means s.gathered (told-grown known said g s.gathered sound are.0.grown told)
+    (cases_of-stand s.gathered.exprs known cases s.value are.1)))))
 
 said-on : (known : Known) (said : Said) (x : SetItem) (xs : List SetItem) → said_behind known said x ++ claims_behind (known_behind known x) xs ≡ said ++ claims_behind known (x ∷ xs)
 said-on known said (items.Set name e) xs = refl

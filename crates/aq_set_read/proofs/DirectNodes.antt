@@ -1,5 +1,5 @@
 -- What stands at a position: it stays where expressions are put behind, and a new node's is told from those that it names.
-use Rattle.std.proofs.Common.{◌≡◌, ℕ, zero, suc, ◌+◌, ◌*◌, ◌<◌, Bool, false, List, [], ◌∷◌, ◌++◌, length, Ok, Err, refl, sym, ap, ap₂, subst, ◌∙◌, arith}
+use Rattle.std.proofs.Common.{◌≡◌, ℕ, zero, suc, ◌+◌, ◌*◌, ◌<◌, Bool, false, List, [], ◌∷◌, ◌++◌, length, Ok, refl, sym, ap, ap₂, ◌∙◌, arith}
 use Rattle.std.specs.Prelude.{replicate}
 use Rattle.std.specs.List.{fold}
 use Rattle.std.proofs.lemmas.List.{get_or_push, replicate_more}
@@ -8,8 +8,8 @@ use Rattle.aq_lex.specs.declared.place.Place.{Place}
 use Rattle.aq_base.specs.Checks.{◌>>=◌}
 use Rattle.aq_sets.specs.Tables.{table, at_position}
 use Rattle.aq_sets.specs.Sizes.{Size, size_step, size_of}
-use Rattle.aq_sets.specs.Vectors.{Vector, Listed, nothing_listed, listed_step, lists, vectors_of, power, tensors, kets_vector, basis}
-use Rattle.aq_set_read.specs.Gathered.{Gathered, Checked, counted}
+use Rattle.aq_sets.specs.Vectors.{Listed, nothing_listed, listed_step, lists, power}
+use Rattle.aq_set_read.specs.Gathered.{Gathered, counted}
 use Rattle.aq_set_read.specs.Meaning.{Step, out_of_range, with_expr, node}
 use Rattle.aq_set_read.specs.Direct.{Meant, denoted, product_of, union_of, in_turn}
 use Rattle.aq_set_read.specs.Standing.{denoted_at}
@@ -20,7 +20,7 @@ use Rattle.aq_sets.proofs.TableLaws.{get_or-grown, length-table, table-push}
 use Rattle.aq_sets.proofs.ValidSizes.{size-stays, size-last}
 use Rattle.aq_set_read.specs.declared.set_fault.SetFault.TheVariants as faults
 use Rattle.aq_set_read.proofs.ValidChecks.{Judged, unless}
-use Rattle.aq_set_read.proofs.ValidNodes.{IsMade, IsGrown, one_node_more, counted-judged, few-within}
+use Rattle.aq_set_read.proofs.ValidNodes.{IsMade, IsGrown, counted-judged, few-within}
 
 -- ---- positions
 
@@ -60,7 +60,8 @@ made-stays g h m grown made = ap (λ (es : List Expr). made_at es m) grown.exprs
 abbrev pub StandsFor : Meant → Step Made → Type 0
 StandsFor d s = made_at s.gathered.exprs s.value ≡ d
 
-pub node-stands : (at : Place) (refused : Bool) (e : Expr) (qubits : ℕ) (g : Gathered) (d : Meant) → (refused ≡ false → denoted_behind g.exprs e ≡ d) → Judged (StandsFor d) (node at refused e qubits g)
+pub node-stands : (at : Place) (refused : Bool) (e : Expr) (qubits : ℕ) (g : Gathered) (d : Meant)
+    → (refused ≡ false → denoted_behind g.exprs e ≡ d) → Judged (StandsFor d) (node at refused e qubits g)
 node-stands at refused e qubits g d is =
     unless (StandsFor d) refused (faults.QubitCount at) (counted at g >>= λ h. Ok (with_expr e qubits h)) tt (λ passed.
     counted-judged (StandsFor d) at g (λ h. Ok (with_expr e qubits h)) (λ few. denoted-last g.exprs e ∙ is passed))
@@ -96,7 +97,8 @@ copies-are (suc n) qubits base =
     ∙ sym (copies-more n x)
 
 -- a power of some qubits has a factor
-pub power-behind : (xs : List Expr) (base times qubits : ℕ) → out_of_range (qubits * times) ≡ false → denoted_behind xs (expr.Power base times) ≡ in_turn product_of (replicate times (denoted_at xs base))
+pub power-behind : (xs : List Expr) (base times qubits : ℕ) → out_of_range (qubits * times) ≡ false
+    → denoted_behind xs (expr.Power base times) ≡ in_turn product_of (replicate times (denoted_at xs base))
 unfolding size_of lists
 power-behind xs base zero qubits passed =
     let some = (few-within (qubits * 0) passed).0 in

@@ -1,5 +1,5 @@
--- What the items of a set file mean, told directly: an expression stands for a list of vectors, and a set's name for those of
--- its expression. Nothing is said here of limits, faults, or the list in which a reader keeps expressions.
+-- What the items of a set file mean, told directly: an expression stands for vectors in order, and the name of a set for those
+-- of its expression. Nothing is said here of limits, faults, or positions in a list of expressions.
 use Rattle.std.specs.Prelude.{ℕ, ◌+◌, List, [], ◌∷◌, ◌++◌, map, replicate, Option, Some, None}
 use Rattle.std.specs.List.{fold}
 use Rattle.std.specs.Map.{lookup}
@@ -30,7 +30,7 @@ denoted qubits vectors = Some (record { qubits = qubits; vectors = vectors })
 
 -- ---- expressions
 
--- the products of a vector of the left and one of the right, the left one outermost
+-- each vector of the left times each of the right, the left one outermost
 abbrev pub product_of : Meant → Meant → Meant
 product_of (Some l) (Some r) = denoted (l.qubits + r.qubits) (tensors l.vectors r.vectors)
 product_of (Some l) None = None
@@ -42,7 +42,7 @@ union_of (Some l) (Some r) = denoted l.qubits (l.vectors ++ r.vectors)
 union_of (Some l) None = None
 union_of None r = None
 
--- joined from the left to the right
+-- operands, joined from the left to the right
 abbrev pub in_turn : (Meant → Meant → Meant) → List Meant → Meant
 in_turn join [] = None
 in_turn join (x ∷ xs) = fold join x xs
@@ -56,7 +56,7 @@ power_of (Some p) x = in_turn product_of (replicate p.number x)
 abbrev pub Known : Type 0
 Known = List (List ℕ × Meant)
 
--- a bracket is the one vector with each term's amplitude at its index
+-- a bracket is the one vector with each term's amplitude at its index; a name is the set before it that has the name
 abbrev pub expr_meant : Known → SetExpr-F Meant Meant Meant → Meant
 expr_meant known (SetExpr-F.Bracket at terms) = denoted (bracket_qubits terms) (kets_vector (bracket_qubits terms) (map term_of terms) ∷ [])
 expr_meant known (SetExpr-F.All at number) = denoted number (basis number)

@@ -2,8 +2,8 @@ pub mod Gathered
 pub mod Coefs
 pub mod Meaning
 pub mod Direct
-pub mod Standing
 pub mod Bounds
 pub mod Parts
 pub mod Texts
+pub mod Standing
 pub mod FaultNames

@@ -3,7 +3,7 @@ ghost use Rattle.aq_set_parse.specs.Short.{IsShortTree};
 ghost use Rattle.aq_set_parse.specs.declared.tree.SetTree.{SetTree};
 ghost use Rattle.aq_set_read.specs.Meaning.{sets_of};
 ghost use Rattle.aq_set_read.specs.Direct.{sets_meant, claims_meant};
-ghost use Rattle.aq_set_read.specs.Standing.{sets_at, claims_at};
+ghost use Rattle.aq_set_read.specs.Standing.{sets_at, claims_at, MeansSets};
 ghost use Rattle.aq_set_read.specs.Texts.{SaysSets, SetFaultOf};
 ghost use Rattle.aq_sets.specs.Valid.{IsValidSets};
 ghost use Rattle.aq_sets.specs.declared.sets.Sets.{Sets};
@@ -29,7 +29,11 @@ pub fn set_files()
 /// The vectors at the positions of a file's sets and cases are what its tree means directly. It does nothing.
 pub fn set_meaning()
     // The sets, in order: each name with its vectors and their number of qubits.
-    ensures sets { (tree : SetTree) (sets : Sets) → sets_of tree ≡ Ok sets → sets_at sets ≡ sets_meant tree.items }
-    // The claims, in order: each name with its cases, and of each its conditions, its vectors and their number of qubits.
-    ensures claims { (tree : SetTree) (sets : Sets) → sets_of tree ≡ Ok sets → claims_at sets ≡ claims_meant tree.items }
+    ensures sets { (tree : SetTree) (sets : Sets) → sets_of tree ≡ Ok sets →
+        sets_at sets ≡ sets_meant tree.items }
+    // The claims, in order: each name with its cases, of each its conditions, vectors and number of qubits.
+    ensures claims { (tree : SetTree) (sets : Sets) → sets_of tree ≡ Ok sets →
+        claims_at sets ≡ claims_meant tree.items }
+    // Both for the sets and claims that a text says.
+    ensures texts { (text : List ℕ) (sets : Sets) → SaysSets text sets → MeansSets text sets }
 {}

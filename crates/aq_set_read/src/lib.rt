@@ -1,6 +1,7 @@
 //! What a set file means: its sets and claims, or the first fault of its text.
 //!
-//! `read_sets` reads a whole file. The meaning of a tree is in `specs/Meaning`, and what a text says in `specs/Texts`.
+//! `read_sets` reads a whole file. The meaning of a tree is in `specs/Meaning`, what its items mean directly, with no list
+//! of expressions, in `specs/Direct`, and what a text says in `specs/Texts`.
 #![tactic(auto)]
 
 mod amplitudes;
