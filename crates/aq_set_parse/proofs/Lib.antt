@@ -5,6 +5,7 @@ pub mod CutLaws
 pub mod CutLemmas
 pub mod CutSteps
 pub mod SomeCut
+pub mod SomeReading
 pub mod Pieces
 pub mod Marks
 pub mod ScalarLaws

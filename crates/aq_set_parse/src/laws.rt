@@ -2,15 +2,18 @@ ghost use Rattle.std.specs.Prelude.{◌≡◌, ◌≤◌, ◌+◌, ◌⊎◌, Li
 ghost use Rattle.aq_set_parse.specs.Cuts.{Lexeme, Cut, Reads, tokens_of, texts_of, slice_of};
 ghost use Rattle.aq_set_parse.specs.declared.token.SetToken.{SetToken};
 ghost use Rattle.aq_set_parse.specs.declared.fault.SetLexFault.{SetLexFault};
+ghost use Rattle.aq_set_parse.specs.declared.fault.SetLexFault.TheVariants as lexed;
 ghost use Rattle.aq_set_parse.specs.Piece.{SetPiece};
 ghost use Rattle.aq_set_parse.specs.Pieces.{pieces};
 ghost use Rattle.aq_set_parse.specs.SetGrammar.{IsFile};
 ghost use Rattle.aq_set_parse.specs.Short.{IsShortTree};
+ghost use Rattle.aq_set_parse.specs.Told.{FaultOf};
 ghost use Rattle.aq_set_parse.specs.Verdict.{IsFault};
 ghost use Rattle.aq_set_parse.specs.declared.reader.Fault.{Fault};
 ghost use Rattle.aq_set_parse.specs.declared.tree.SetTree.{SetTree};
 
-/// A set file has one cut, and so it says one thing. Each token's span has the bytes that were cut.
+/// A set file has one cut, and so it says one thing. Each token's span has the bytes that were cut. Each text has tokens, or
+/// a first fault of them that isn't want of memory.
 pub fn set_cuts()
     ensures some { (before bytes : List ℕ) → (ls : List Lexeme) × Cut before bytes ls }
     ensures cut { (before bytes : List ℕ) (ls ms : List Lexeme) → Cut before bytes ls → Cut before bytes ms → ls ≡ ms }
@@ -18,6 +21,8 @@ pub fn set_cuts()
         → a ≡ b }
     ensures slices { (source : List ℕ) (ls : List Lexeme) (ts : List SetToken) → Cut [] source ls
         → tokens_of [] ls ≡ Ok ts → map (slice_of source) ts ≡ texts_of ls }
+    ensures answer { (source : List ℕ) → ((ts : List SetToken) × Reads source (Ok ts)) ⊎ ((f : SetLexFault) ×
+        FaultOf source f × (f ≡ lexed.Memory → ⊥)) }
 {}
 
 /// What holds of the grammar: each list of tokens has one tree or one first fault. It does nothing.

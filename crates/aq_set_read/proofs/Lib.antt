@@ -10,4 +10,5 @@ mod ValidItems
 mod DirectNodes
 mod DirectExprs
 mod DirectItems
+mod NoMemory
 mod TextsLaws

@@ -1,5 +1,5 @@
 -- A text of a set file says one thing: its sets, which are valid, or its first fault.
-use Rattle.std.proofs.Common.{◌≡◌, ◌^◌, ◌<◌, ◌≤◌, ℕ, List, length, Result, Ok, Err, IfOk, IfErr, refl, ap, ap₂, sym, subst, ◌∙◌, take, nat_lt, Bool, true, false, arith}
+use Rattle.std.proofs.Common.{◌≡◌, ◌⊎◌, inl, inr, ◌^◌, ◌<◌, ◌≤◌, ℕ, List, length, Result, Ok, Err, IfOk, IfErr, refl, ap, ap₂, sym, subst, ◌∙◌, take, nat_lt, Bool, true, false, arith}
 use Rattle.std.specs.Prelude.{IsUtf8}
 use Rattle.std.specs.Str.{IsValidUpTo}
 use Rattle.std.proofs.lemmas.Bool.{ltb-true, ltb-false}
@@ -7,6 +7,7 @@ use Rattle.std.proofs.lemmas.List.{take_all}
 use Rattle.aq_grammar.specs.Words.{first}
 use Rattle.aq_lex.specs.Places.{place_after}
 use Rattle.aq_set_parse.specs.Cuts.{Reads}
+use Rattle.aq_set_parse.specs.Told as lex
 use Rattle.aq_set_parse.specs.Piece.{SetPiece}
 use Rattle.aq_set_parse.specs.Pieces.{pieces}
 use Rattle.aq_set_parse.specs.Tokens.{place_of}
@@ -28,9 +29,11 @@ use Rattle.aq_set_parse.specs.declared.reader.Fault.TheVariants as kinds
 use Rattle.aq_set_read.specs.declared.set_fault.SetFault.{SetFault}
 use Rattle.aq_set_read.specs.declared.set_fault.SetFault.TheVariants as faults
 use Rattle.aq_set_parse.proofs.CutLaws.{one_reading}
-use Rattle.aq_set_parse.proofs.Judged.{one_tree, one_fault}
+use Rattle.aq_set_parse.proofs.Judged.{one_tree, one_fault, some_answer}
 use Rattle.aq_set_parse.proofs.ShortTrees.{short_tree}
-use Rattle.aq_set_read.proofs.ValidChecks.{Judged}
+use Rattle.aq_set_parse.proofs.SomeReading.{some_reading}
+use Rattle.aq_set_read.proofs.NoMemory.{IsNamed, Told, tree-told}
+use Rattle.aq_set_read.proofs.ValidChecks.{IsOfItems, Judged}
 use Rattle.aq_set_read.proofs.ValidItems.{sets_of-valid}
 
 -- ---- what the meaning of a tree gives
@@ -49,38 +52,36 @@ pub valid_given : (r : Result Sets SetFault) (text : List ℕ) (tree : SetTree) 
 valid_given (Ok s) text tree few has e = tree-valid (length text) tree s (omega (arith, few)) (tree-short text tree has) e
 valid_given (Err f) text tree few has h = tt
 
-module _ (text : List ℕ) (tree : SetTree) (few : length text ≤ most_sets_bytes) (has : HasSetTree text tree) where
-  -- the meaning of a tree has no fault of bytes, tokens or the grammar
-  abbrev Told : SetFault → Type 0
-  Told f = (f ≡ faults.Memory → ⊥) → sets_of tree ≡ Err f
+-- a fault of items is the first fault of the text; of want of memory nothing is asked
+item_told : (text : List ℕ) (f : SetFault) → ((f ≡ faults.Memory → ⊥) → IsOfItems f × HasItemFault text f) → SetFaultOf text f
+item_told text (faults.NotUtf8 at) h = absurd (h (λ e. cc)).0
+item_told text (faults.BadByte at byte) h = absurd (h (λ e. cc)).0
+item_told text (faults.OpenComment at) h = absurd (h (λ e. cc)).0
+item_told text (faults.LongNumber at) h = absurd (h (λ e. cc)).0
+item_told text (faults.BadKet at) h = absurd (h (λ e. cc)).0
+item_told text (faults.Unexpected at token) h = absurd (h (λ e. cc)).0
+item_told text (faults.TooDeep at) h = absurd (h (λ e. cc)).0
+item_told text (faults.TooManyNames at) h = (h (λ e. cc)).1
+item_told text (faults.TwiceNamed at) h = (h (λ e. cc)).1
+item_told text (faults.UnknownSet at) h = (h (λ e. cc)).1
+item_told text (faults.QubitCount at) h = (h (λ e. cc)).1
+item_told text (faults.AmpTooWide at) h = (h (λ e. cc)).1
+item_told text (faults.KetLength at) h = (h (λ e. cc)).1
+item_told text (faults.RepeatedKet at) h = (h (λ e. cc)).1
+item_told text (faults.TooManyNodes at) h = (h (λ e. cc)).1
+item_told text faults.Memory h = tt
 
-  judged : (f : SetFault) → Told f → (f ≡ faults.Memory → ⊥) → Judged IsValidSets (Err f)
-  judged f told not = subst (Judged IsValidSets) (told not) (sets_of-valid (length text) tree (omega (arith, few)) (tree-short text tree has))
+-- the meaning of a text's tree has no fault of bytes, tokens or the grammar, and not want of memory
+named_told : (text : List ℕ) (tree : SetTree) (f : SetFault) → HasSetTree text tree → sets_of tree ≡ Err f → IsNamed f
+named_told text tree f has e = subst Told e (tree-told most_nested tree (pieces (record { source = text; list = has.tokens })) has.grammar)
 
-  item : (f : SetFault) → Told f → (f ≡ faults.Memory → ⊥) → HasItemFault text f
-  item f told not = record { tree = tree; has_tree = has; meaning = told not }
+fault_told : (text : List ℕ) (tree : SetTree) (f : SetFault) → HasSetTree text tree → ((f ≡ faults.Memory → ⊥) → sets_of tree ≡ Err f) → SetFaultOf text f
+fault_told text tree f has told =
+    item_told text f (λ not. ((named_told text tree f has (told not)).0, record { tree = tree; has_tree = has; meaning = told not }))
 
-  fault_told : (f : SetFault) → Told f → SetFaultOf text f
-  fault_told (faults.NotUtf8 at) h = absurd (judged (faults.NotUtf8 at) h (λ e. cc))
-  fault_told (faults.BadByte at byte) h = absurd (judged (faults.BadByte at byte) h (λ e. cc))
-  fault_told (faults.OpenComment at) h = absurd (judged (faults.OpenComment at) h (λ e. cc))
-  fault_told (faults.LongNumber at) h = absurd (judged (faults.LongNumber at) h (λ e. cc))
-  fault_told (faults.BadKet at) h = absurd (judged (faults.BadKet at) h (λ e. cc))
-  fault_told (faults.Unexpected at token) h = absurd (judged (faults.Unexpected at token) h (λ e. cc))
-  fault_told (faults.TooDeep at) h = absurd (judged (faults.TooDeep at) h (λ e. cc))
-  fault_told (faults.TooManyNames at) h = item (faults.TooManyNames at) h (λ e. cc)
-  fault_told (faults.TwiceNamed at) h = item (faults.TwiceNamed at) h (λ e. cc)
-  fault_told (faults.UnknownSet at) h = item (faults.UnknownSet at) h (λ e. cc)
-  fault_told (faults.QubitCount at) h = item (faults.QubitCount at) h (λ e. cc)
-  fault_told (faults.AmpTooWide at) h = item (faults.AmpTooWide at) h (λ e. cc)
-  fault_told (faults.KetLength at) h = item (faults.KetLength at) h (λ e. cc)
-  fault_told (faults.RepeatedKet at) h = item (faults.RepeatedKet at) h (λ e. cc)
-  fault_told (faults.TooManyNodes at) h = item (faults.TooManyNodes at) h (λ e. cc)
-  fault_told faults.Memory h = tt
-
-pub fault_given : (r : Result Sets SetFault) (text : List ℕ) (tree : SetTree) → length text ≤ most_sets_bytes → HasSetTree text tree → Gives (λ (s : Sets). s) r (sets_of tree) → IfErr r (SetFaultOf text)
-fault_given (Ok s) text tree few has h = tt
-fault_given (Err f) text tree few has h = fault_told text tree few has f h
+pub fault_given : (r : Result Sets SetFault) (text : List ℕ) (tree : SetTree) → HasSetTree text tree → Gives (λ (s : Sets). s) r (sets_of tree) → IfErr r (SetFaultOf text)
+fault_given (Ok s) text tree has h = tt
+fault_given (Err f) text tree has h = fault_told text tree f has h
 
 -- ---- one tree, one list of sets
 
@@ -207,3 +208,35 @@ module _ (text : List ℕ) (e f : SetFault) where
 
 pub one_fault_of_text : (text : List ℕ) (e f : SetFault) → SetFaultOf text e → SetFaultOf text f → (e ≡ faults.Memory → ⊥) → (f ≡ faults.Memory → ⊥) → e ≡ f
 one_fault_of_text text e f h k = one_because text e f (because text e h) (because text f k)
+
+-- ---- sets or a fault
+
+abbrev Answer : List ℕ → Type 0
+Answer text = ((sets : Sets) × SaysSets text sets) ⊎ ((f : SetFault) × SetFaultOf text f × (f ≡ faults.Memory → ⊥))
+
+module _ (text : List ℕ) where
+  answer_of_tree : (tree : SetTree) → HasSetTree text tree → (r : Result Sets SetFault) → sets_of tree ≡ r → Answer text
+  answer_of_tree tree has (Ok sets) e = inl (sets, record { tree = tree; has_tree = has; meaning = e })
+  answer_of_tree tree has (Err f) e = inr (f, fault_told text tree f has (λ not. e), (named_told text tree f has e).1)
+
+  answer_of_list : (ts : List SetToken) → Reads text (Ok ts) → ((tree : SetTree) × IsFile most_nested tree (pieces_in text ts)) ⊎ ((k : Fault) × (rest : List SetPiece) × IsFault most_nested (pieces_in text ts) k rest) → Answer text
+  answer_of_list ts cut (inl (tree, grammar)) = answer_of_tree tree (record { tokens = ts; cut = cut; grammar = grammar }) (sets_of tree) refl
+  answer_of_list ts cut (inr (kinds.Unexpected, rest, is)) =
+      inr (told_tree kinds.Unexpected rest, record { tokens = ts; cut = cut; first = (rest, is, refl, refl) }, λ e. cc)
+  answer_of_list ts cut (inr (kinds.TooDeep, rest, is)) =
+      inr (told_tree kinds.TooDeep rest, record { tokens = ts; cut = cut; first = (rest, is, refl) }, λ e. cc)
+
+  answer_of_fault : (l : SetLexFault) → lex.FaultOf text l → (l ≡ lexed.Memory → ⊥) → Answer text
+  answer_of_fault (lexed.NotUtf8 at) h not = inr (faults.NotUtf8 at, h, λ e. cc)
+  answer_of_fault (lexed.BadByte at byte) h not = inr (faults.BadByte at byte, h, λ e. cc)
+  answer_of_fault (lexed.OpenComment at) h not = inr (faults.OpenComment at, h, λ e. cc)
+  answer_of_fault (lexed.LongNumber at) h not = inr (faults.LongNumber at, h, λ e. cc)
+  answer_of_fault (lexed.BadKet at) h not = inr (faults.BadKet at, h, λ e. cc)
+  answer_of_fault lexed.Memory h not = absurd (not refl)
+
+pub some_saying : (text : List ℕ) → Answer text
+some_saying text = by (some_reading text)
+  where
+    by : ((ts : List SetToken) × Reads text (Ok ts)) ⊎ ((l : SetLexFault) × lex.FaultOf text l × (l ≡ lexed.Memory → ⊥)) → Answer text
+    by (inl (ts, cut)) = answer_of_list text ts cut (some_answer most_nested (pieces_in text ts))
+    by (inr (l, fault, not)) = answer_of_fault text l fault not

@@ -1,4 +1,4 @@
-ghost use Rattle.std.specs.Prelude.{◌≡◌, ◌<◌, ◌^◌, List, ℕ, Ok, length};
+ghost use Rattle.std.specs.Prelude.{◌≡◌, ◌<◌, ◌^◌, ◌⊎◌, List, ℕ, Ok, length};
 ghost use Rattle.aq_set_parse.specs.Short.{IsShortTree};
 ghost use Rattle.aq_set_parse.specs.declared.tree.SetTree.{SetTree};
 ghost use Rattle.aq_set_read.specs.Meaning.{sets_of};
@@ -10,7 +10,8 @@ ghost use Rattle.aq_sets.specs.declared.sets.Sets.{Sets};
 ghost use Rattle.aq_set_read.specs.declared.set_fault.SetFault.{SetFault};
 ghost use Rattle.aq_set_read.specs.declared.set_fault.SetFault.TheVariants as faults;
 
-/// What holds of the text of a set file: it says one thing. It does nothing.
+/// What holds of the text of a set file: it says one thing, or has one first fault, which isn't want of memory. It does
+/// nothing.
 pub fn set_files()
     // At most one list of sets and claims.
     ensures sets { (text : List ℕ) (a b : Sets) → SaysSets text a → SaysSets text b → a ≡ b }
@@ -20,6 +21,9 @@ pub fn set_files()
     // Not both.
     ensures apart { (text : List ℕ) (sets : Sets) (f : SetFault) → SaysSets text sets → SetFaultOf text f →
         (f ≡ faults.Memory → ⊥) → ⊥ }
+    // One of them.
+    ensures some { (text : List ℕ) → ((sets : Sets) × SaysSets text sets) ⊎ ((f : SetFault) × SetFaultOf text f ×
+        (f ≡ faults.Memory → ⊥)) }
     // What it says is valid, as is what any tree means. That no list is long takes a text, or a tree, that isn't.
     ensures valid { (text : List ℕ) (sets : Sets) → length text < 2 ^ 32 → SaysSets text sets → IsValidSets sets }
     ensures meaning { (n : ℕ) (tree : SetTree) (sets : Sets) → n < 2 ^ 32 → IsShortTree n tree → sets_of tree ≡ Ok sets

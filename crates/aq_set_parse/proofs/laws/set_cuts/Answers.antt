@@ -1,5 +1,6 @@
 use Rattle.aq_set_parse.proofs.CutLaws as laws
 use Rattle.aq_set_parse.proofs.SomeCut as exists
+use Rattle.aq_set_parse.proofs.SomeReading.{some_reading}
 use Rattle.aq_set_parse.proofs.laws.set_cuts.Goals as goal
 
 pub returns-clause-cut : goal.returns-clause-cut
@@ -13,3 +14,6 @@ returns-clause-slices c = laws.slices
 
 pub returns-clause-some : goal.returns-clause-some
 returns-clause-some c = exists.some_cut
+
+pub returns-clause-answer : goal.returns-clause-answer
+returns-clause-answer c = some_reading
