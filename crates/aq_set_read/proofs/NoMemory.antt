@@ -1,6 +1,7 @@
 -- A tree by the grammar has no want of memory as its fault: by induction over the grammar. Its chains have an operand, and
 -- its claims a case.
 use Rattle.std.proofs.Common.{◌≡◌, ℕ, zero, suc, ◌+◌, ◌*◌, ◌<◌, ◌==◌, Bool, true, false, not, nat_lt, List, [], ◌∷◌, ◌++◌, map, length, Option, Some, None, Ok, Err, IfErr, sym, subst, arith}
+use denote.Hole.Carrier.{roll}
 use Rattle.std.specs.List.{AllByRecursion}
 use Rattle.std.specs.Option.{is_some}
 use Rattle.std.proofs.lemmas.List.{length_push}
@@ -19,7 +20,8 @@ use Rattle.aq_set_parse.specs.declared.tree.SetExpr.{SetExpr}
 use Rattle.aq_set_parse.specs.declared.tree.SetFactor.{SetFactor}
 use Rattle.aq_set_parse.specs.declared.tree.SetPart.{SetPart}
 use Rattle.aq_set_parse.specs.declared.tree.SetExpr.TheOpen.{SetExpr-F, SetFactor-F, SetPart-F}
-use Rattle.aq_set_parse.specs.declared.tree.SetExpr.TheFolds.{fold-roll-SetExpr, fold-roll-SetFactor, fold-roll-SetPart}
+use Rattle.aq_set_parse.specs.declared.tree.SetExpr.TheFolds.{map-SetExpr, fold-roll-SetExpr, fold-roll-SetFactor, fold-roll-SetPart}
+use Rattle.aq_set_parse.specs.declared.tree.SetExpr.TheViews.{roll-SetExpr, roll-SetFactor, roll-SetPart}
 use Rattle.aq_set_parse.specs.declared.tree.SetCase.{SetCase}
 use Rattle.aq_set_parse.specs.declared.tree.SetItem.{SetItem}
 use Rattle.aq_set_parse.specs.declared.tree.SetItem.TheVariants as items
@@ -159,11 +161,16 @@ chain-told m at G operand each join told (x ∷ xs) front h g =
 abbrev IsToldExpr : SetExpr → Type 0
 IsToldExpr e = IsTold (meaning e)
 
+-- what one level of a tree means, from what its parts mean
+level-told : (y : SetExpr-F SetExpr SetFactor SetPart) → IsTold (expr_step (map-SetExpr SetExpr SetFactor SetPart Meaning Operand Operand meaning factor_of part_of y)) → IsToldExpr (roll-SetExpr y)
+level-told y = subst IsTold (sym (fold-roll-SetExpr Meaning Operand Operand expr_step factor_step part_step y))
+
 module _ (G : SetExpr → List SetPiece → Type 0) (group : (e : SetExpr) (front : List SetPiece) → G e front → IsToldExpr e) where
   atom-told : (e : SetExpr) (front : List SetPiece) → IsAtom G e front → IsToldExpr e
-  atom-told _ front (IsAtom.bracket at terms _ h) = subst IsTold (sym (fold-roll-SetExpr Meaning Operand Operand expr_step factor_step part_step (SetExpr-F.Bracket at terms))) (bracket-told at terms)
-  atom-told _ front (IsAtom.all at number _ h) = subst IsTold (sym (fold-roll-SetExpr Meaning Operand Operand expr_step factor_step part_step (SetExpr-F.All at number))) (all-told at number)
-  atom-told _ front (IsAtom.named name _ h) = subst IsTold (sym (fold-roll-SetExpr Meaning Operand Operand expr_step factor_step part_step (SetExpr-F.Name name))) (name-told name)
+  unfolding roll-SetExpr roll
+  atom-told _ front (IsAtom.bracket at terms _ h) = level-told (SetExpr-F.Bracket at terms) (bracket-told at terms)
+  atom-told _ front (IsAtom.all at number _ h) = level-told (SetExpr-F.All at number) (all-told at number)
+  atom-told _ front (IsAtom.named name _ h) = level-told (SetExpr-F.Name name) (name-told name)
   atom-told e front (IsAtom.group _ _ h) = group e front h
 
   factor-told : (x : SetFactor) (front : List SetPiece) → IsPower G x front → IsToldOperand (factor_of x)
@@ -173,9 +180,9 @@ module _ (G : SetExpr → List SetPiece → Type 0) (group : (e : SetExpr) (fron
       then-told (meaning x.expr g) (powered x.power) (atom-told x.expr h.a h.left g) (powered-told x.power))
 
   tensor-told : (e : SetExpr) (front : List SetPiece) → IsTensor G e front → IsToldExpr e
+  unfolding roll-SetExpr roll
   tensor-told _ front (IsTensor.tensor factors _ h) =
-      subst IsTold (sym (fold-roll-SetExpr Meaning Operand Operand expr_step factor_step part_step (SetExpr-F.Tensor factors)))
-      (chain-told marks.Star (λ x. x.at) (IsPower G) factor_of factor-told tensored tensored-told factors front h)
+      level-told (SetExpr-F.Tensor factors) (chain-told marks.Star (λ x. x.at) (IsPower G) factor_of factor-told tensored tensored-told factors front h)
 
   part-told : (x : SetPart) (front : List SetPiece) → IsTensor G x.expr front → IsToldOperand (part_of x)
   part-told x front h =
@@ -183,9 +190,9 @@ module _ (G : SetExpr → List SetPiece → Type 0) (group : (e : SetExpr) (fron
       subst IsToldOperand (sym (fold-roll-SetPart Meaning Operand Operand expr_step factor_step part_step y)) (tensor-told x.expr front h)
 
   union-told : (e : SetExpr) (front : List SetPiece) → IsUnion G e front → IsToldExpr e
+  unfolding roll-SetExpr roll
   union-told _ front (IsUnion.union parts _ h) =
-      subst IsTold (sym (fold-roll-SetExpr Meaning Operand Operand expr_step factor_step part_step (SetExpr-F.Union parts)))
-      (chain-told marks.Union (λ x. x.at) (λ (x : SetPart). IsTensor G x.expr) part_of part-told united united-told parts front h)
+      level-told (SetExpr-F.Union parts) (chain-told marks.Union (λ x. x.at) (λ (x : SetPart). IsTensor G x.expr) part_of part-told united united-told parts front h)
 
 group-told : (deep : ℕ) (e : SetExpr) (front : List SetPiece) → IsGroup deep e front → IsToldExpr e
 group-told zero e front h = absurd h
