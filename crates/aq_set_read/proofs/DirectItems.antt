@@ -1,5 +1,5 @@
 -- What the items of a set file give stands for what they mean directly.
-use Rattle.std.proofs.Common.{◌≡◌, ℕ, ◌+◌, ◌<◌, Bool, true, false, List, [], ◌∷◌, ◌++◌, map, length, cond, Option, Some, None, Ok, Err, refl, sym, ap, ap₂, subst, ◌∙◌, arith}
+use Rattle.std.proofs.Common.{◌≡◌, ℕ, ◌+◌, ◌<◌, Bool, true, false, List, [], ◌∷◌, ◌++◌, map, length, cond, Option, Some, None, Ok, refl, sym, ap, ap₂, subst, ◌∙◌, arith}
 use Rattle.std.specs.Prelude.{if◌then◌else◌}
 use Rattle.std.specs.List.{AllByRecursion, fold}
 use Rattle.std.specs.Map.{lookup}
@@ -7,7 +7,7 @@ use Rattle.std.specs.Str.{bytes_eq}
 use Rattle.std.proofs.lemmas.Cmp.{nat_list_eq_equiv}
 use Rattle.std.proofs.lemmas.List.{map-append, append_assoc, append-nil}
 use Rattle.aq_base.specs.Checks.{◌>>=◌, ◌>>◌}
-use Rattle.aq_set_read.specs.Gathered.{Gathered, Checked, named, nothing_gathered}
+use Rattle.aq_set_read.specs.Gathered.{Gathered, named, nothing_gathered}
 use Rattle.aq_set_read.specs.Meaning.{Step, meaning, cases_made, same_qubits, first_qubits, cases_of, cond_of, naming, with_set, with_claim, item_taken, items_taken, sets_in, sets_of}
 use Rattle.aq_set_read.specs.Direct.{Meant, Known, meant, MeantCase, case_meant, known_behind, sets_meant, Said, claims_behind, claims_meant}
 use Rattle.aq_set_read.specs.Standing.{denoted_at, case_at, sets_at, claims_at}

@@ -7,10 +7,10 @@ use Rattle.std.specs.Option.{is_some}
 use Rattle.std.proofs.lemmas.List.{length_push}
 use Rattle.aq_base.specs.Checks.{refuse_if, ◌>>=◌, ◌>>◌}
 use Rattle.aq_base.specs.Limits.{most_names, most_nodes, most_qubits}
-use Rattle.aq_grammar.specs.Words.{IsMany, IsPlaced}
+use Rattle.aq_grammar.specs.Words.{IsMany}
 use Rattle.aq_lex.specs.declared.place.Place.{Place}
 use Rattle.aq_set_parse.specs.Piece.{SetPiece}
-use Rattle.aq_set_parse.specs.SetGrammar.{IsAtom, IsPower, IsChain, IsTensor, IsUnion, IsGroup, IsExpr, IsCase, IsCases, IsItem, IsFile}
+use Rattle.aq_set_parse.specs.SetGrammar.{IsAtom, IsPower, IsChain, IsTensor, IsUnion, IsGroup, IsExpr, IsCases, IsItem, IsFile}
 use Rattle.aq_set_parse.specs.declared.mark.SetMark.{SetMark}
 use Rattle.aq_set_parse.specs.declared.mark.SetMark.TheVariants as marks
 use Rattle.aq_set_parse.specs.declared.tree.SetWord.{SetWord}
@@ -21,7 +21,7 @@ use Rattle.aq_set_parse.specs.declared.tree.SetFactor.{SetFactor}
 use Rattle.aq_set_parse.specs.declared.tree.SetPart.{SetPart}
 use Rattle.aq_set_parse.specs.declared.tree.SetExpr.TheOpen.{SetExpr-F, SetFactor-F, SetPart-F}
 use Rattle.aq_set_parse.specs.declared.tree.SetExpr.TheFolds.{map-SetExpr, fold-roll-SetExpr, fold-roll-SetFactor, fold-roll-SetPart}
-use Rattle.aq_set_parse.specs.declared.tree.SetExpr.TheViews.{roll-SetExpr, roll-SetFactor, roll-SetPart}
+use Rattle.aq_set_parse.specs.declared.tree.SetExpr.TheViews.{roll-SetExpr}
 use Rattle.aq_set_parse.specs.declared.tree.SetCase.{SetCase}
 use Rattle.aq_set_parse.specs.declared.tree.SetItem.{SetItem}
 use Rattle.aq_set_parse.specs.declared.tree.SetItem.TheVariants as items
@@ -225,7 +225,10 @@ cases-told made [] g next h some k = k (step g made) (omega (arith, some))
 cases-told made (c ∷ cs) g next h some k =
     by (meaning c.expr g) (h.0 g) (λ s. let long = length_push made s.value in cases-told (made ++ s.value ∷ []) cs s.gathered next h.1 (omega (arith, long)) k)
   where
-    by : (r : Checked (Step Made)) → Told r → ((s : Step Made) → Told (cases_made (made ++ s.value ∷ []) cs s.gathered >>= next)) → Told ((r >>= λ s. cases_made (made ++ s.value ∷ []) cs s.gathered) >>= next)
+    more : Step Made → Checked (Step (List Made))
+    more s = cases_made (made ++ s.value ∷ []) cs s.gathered
+
+    by : (r : Checked (Step Made)) → Told r → ((s : Step Made) → Told (more s >>= next)) → Told ((r >>= more) >>= next)
     by (Ok s) t rest = rest s
     by (Err e) t rest = t
 
@@ -247,7 +250,10 @@ module _ (E : SetExpr → List SetPiece → Type 0) (told : (e : SetExpr) (front
       (then-told (meaning e g) (λ s. Ok (with_set name.text s)) (told e h.right.a h.right.left g) (λ s. tt))
   item-told _ front (IsItem.claim name cases _ h) g = claim-told name cases h.right.a h.right.left g
 
-items-told : (xs : List SetItem) → AllByRecursion (λ (x : SetItem). (g : Gathered) → Told (item_taken x g)) xs → (g : Gathered) → Told (items_taken xs g)
+abbrev IsToldItem : SetItem → Type 0
+IsToldItem x = (g : Gathered) → Told (item_taken x g)
+
+items-told : (xs : List SetItem) → AllByRecursion IsToldItem xs → (g : Gathered) → Told (items_taken xs g)
 items-told [] h g = tt
 items-told (x ∷ xs) h g = then-told (item_taken x g) (items_taken xs) (h.0 g) (items-told xs h.1)
 
@@ -256,5 +262,5 @@ pub tree-told : (deep : ℕ) (tree : SetTree) (ts : List SetPiece) → IsFile de
 unfolding sets_of
 tree-told deep tree ts h =
     then-told (items_taken tree.items nothing_gathered) (λ g. Ok (sets_in g))
-    (items-told tree.items (many-all (IsItem (IsExpr deep)) (λ (x : SetItem). (g : Gathered) → Told (item_taken x g)) (item-told (IsExpr deep) (expr-told deep)) tree.items h.a h.left) nothing_gathered)
+    (items-told tree.items (many-all (IsItem (IsExpr deep)) IsToldItem (item-told (IsExpr deep) (expr-told deep)) tree.items h.a h.left) nothing_gathered)
     (λ g. tt)

@@ -219,7 +219,8 @@ module _ (text : List ℕ) where
   answer_of_tree tree has (Ok sets) e = inl (sets, record { tree = tree; has_tree = has; meaning = e })
   answer_of_tree tree has (Err f) e = inr (f, fault_told text tree f has (λ not. e), (named_told text tree f has e).1)
 
-  answer_of_list : (ts : List SetToken) → Reads text (Ok ts) → ((tree : SetTree) × IsFile most_nested tree (pieces_in text ts)) ⊎ ((k : Fault) × (rest : List SetPiece) × IsFault most_nested (pieces_in text ts) k rest) → Answer text
+  answer_of_list : (ts : List SetToken) → Reads text (Ok ts)
+      → ((tree : SetTree) × IsFile most_nested tree (pieces_in text ts)) ⊎ ((k : Fault) × (rest : List SetPiece) × IsFault most_nested (pieces_in text ts) k rest) → Answer text
   answer_of_list ts cut (inl (tree, grammar)) = answer_of_tree tree (record { tokens = ts; cut = cut; grammar = grammar }) (sets_of tree) refl
   answer_of_list ts cut (inr (kinds.Unexpected, rest, is)) =
       inr (told_tree kinds.Unexpected rest, record { tokens = ts; cut = cut; first = (rest, is, refl, refl) }, λ e. cc)
