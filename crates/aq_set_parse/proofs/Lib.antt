@@ -19,3 +19,4 @@ pub mod Endings
 pub mod Ways
 pub mod Judged
 pub mod ShortTrees
+pub mod Numbers

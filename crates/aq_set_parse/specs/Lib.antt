@@ -9,6 +9,7 @@ pub mod Pieces
 pub mod Tokens
 pub mod SetGrammar
 pub mod Short
+pub mod Numbers
 pub mod Reading
 pub mod Places
 pub mod Verdict

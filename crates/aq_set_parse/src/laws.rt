@@ -3,6 +3,7 @@ ghost use Rattle.aq_set_parse.specs.Cuts.{Lexeme, Cut, Reads, tokens_of, texts_o
 ghost use Rattle.aq_set_parse.specs.declared.token.SetToken.{SetToken};
 ghost use Rattle.aq_set_parse.specs.declared.fault.SetLexFault.{SetLexFault};
 ghost use Rattle.aq_set_parse.specs.declared.fault.SetLexFault.TheVariants as lexed;
+ghost use Rattle.aq_set_parse.specs.Numbers.{HasFittingCoefs};
 ghost use Rattle.aq_set_parse.specs.Piece.{SetPiece};
 ghost use Rattle.aq_set_parse.specs.Pieces.{pieces};
 ghost use Rattle.aq_set_parse.specs.SetGrammar.{IsFile};
@@ -44,4 +45,11 @@ pub fn short_trees()
     // No claim has more cases than the text has bytes, and no case more conditions.
     ensures tree { (text : List ℕ) (tokens : List SetToken) (deep : ℕ) (tree : SetTree) → Reads text (Ok tokens)
         → IsFile deep tree (pieces (record { source = text; list = tokens })) → IsShortTree (length text) tree }
+{}
+
+/// What holds of the numbers of a set file's tree. It does nothing.
+pub fn tree_numbers()
+    // Each number of a coefficient is one of a token, or 1, and so at most 2^127 - 1.
+    ensures { (text : List ℕ) (tokens : List SetToken) (deep : ℕ) (tree : SetTree) → Reads text (Ok tokens)
+        → IsFile deep tree (pieces (record { source = text; list = tokens })) → HasFittingCoefs tree }
 {}

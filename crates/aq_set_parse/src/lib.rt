@@ -29,7 +29,7 @@ mod tree_tests;
 mod words;
 
 pub use fault::SetLexFault;
-pub use laws::{set_cuts, set_trees, short_trees};
+pub use laws::{set_cuts, set_trees, short_trees, tree_numbers};
 pub use lexer::tokens_of_sets;
 pub use list::SetTokens;
 pub use parse_fault::SetParseFault;

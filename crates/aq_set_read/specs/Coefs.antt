@@ -1,5 +1,5 @@
 -- The amplitude of a term.
-use Rattle.std.specs.Prelude.{ℕ, ◌%◌, ◌^◌, ◌<◌, ⊤, ℤ, pos, neg_ℤ, Bool, true, false, Option, Some, None}
+use Rattle.std.specs.Prelude.{ℕ, ◌%◌, ℤ, pos, neg_ℤ, Bool, true, false, Option, Some, None}
 use Rattle.aq_ring.specs.Quads.{Quad, quad, quad_one, quad_neg, turned_by}
 use Rattle.aq_ring.specs.Fractions.{Amplitude}
 use Rattle.aq_ring.specs.Amplitudes.{lowest_form}
@@ -17,10 +17,6 @@ signed false n = pos n
 abbrev pub int_of : SetInt → ℤ
 int_of x = signed x.minus x.number
 
--- numbers of a text are at most 2^127 - 1, so that each fits an amplitude's coefficients with either sign
-abbrev pub FitsNumber : ℕ → Type 0
-FitsNumber n = n < 2 ^ 127
-
 -- the number n
 abbrev pub whole : ℕ → Quad
 whole n = quad (pos n) (pos 0) (pos 0) (pos 0)
@@ -35,19 +31,10 @@ quad_of_scalar (scalars.Number n) = whole n
 quad_of_scalar (scalars.Turned times turn) = turned_by (turns_of turn) (whole times)
 quad_of_scalar (scalars.Quadruple a b c d) = quad (int_of a) (int_of b) (int_of c) (int_of d)
 
-abbrev pub FitsScalar : SetScalar → Type 0
-FitsScalar (scalars.Number n) = FitsNumber n
-FitsScalar (scalars.Turned times turn) = FitsNumber times
-FitsScalar (scalars.Quadruple a b c d) = FitsNumber a.number × FitsNumber b.number × FitsNumber c.number × FitsNumber d.number
-
 -- the numerator and the divisions by sqrt(2) that are written; 1 and none where there is no coefficient
 abbrev pub numerator : Option SetCoef → Quad
 numerator None = quad_one
 numerator (Some c) = quad_of_scalar c.scalar
-
-abbrev pub FitsCoef : Option SetCoef → Type 0
-FitsCoef None = ⊤
-FitsCoef (Some c) = FitsScalar c.scalar
 
 abbrev pub roots_of : Option SetCoef → ℕ
 roots_of None = 0

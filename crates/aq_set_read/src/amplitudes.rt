@@ -2,10 +2,8 @@
 ghost use Rattle.std.specs.Prelude.{◌≡◌, ◌<◌, ◌^◌, SomeIff};
 ghost use Rattle.aq_ring.specs.Amplitudes.{lowest_form};
 ghost use Rattle.aq_ring.specs.Quads.{turned_by};
+ghost use Rattle.aq_set_parse.specs.Numbers.{FitsNumber, FitsScalar, FitsCoef};
 ghost use Rattle.aq_set_read.specs.Coefs.{
-  FitsNumber,
-  FitsScalar,
-  FitsCoef,
   signed,
   int_of,
   whole,
