@@ -142,7 +142,8 @@ joined-told join told (x ∷ xs) h s =
 -- ---- the grammar
 
 -- what holds of each text of G holds of each of many
-many-all : {T A : Type 0} (G : A → List T → Type 0) (P : A → Type 0) → ((x : A) (front : List T) → G x front → P x) → (xs : List A) (front : List T) → IsMany G xs front → AllByRecursion P xs
+many-all : {T A : Type 0} (G : A → List T → Type 0) (P : A → Type 0) → ((x : A) (front : List T) → G x front → P x)
+    → (xs : List A) (front : List T) → IsMany G xs front → AllByRecursion P xs
 many-all G P each [] front h = tt
 many-all G P each (x ∷ xs) front h = (each x h.a h.left, many-all G P each xs h.b h.right)
 
@@ -151,7 +152,8 @@ all-mapped P f [] h = tt
 all-mapped P f (x ∷ xs) h = (h.0, all-mapped P f xs h.1)
 
 -- a chain has an operand
-chain-told : {A : Type 0} (m : SetMark) (at : A → Place) (G : A → List SetPiece → Type 0) (operand : A → Operand) → ((x : A) (front : List SetPiece) → G x front → IsToldOperand (operand x))
+chain-told : {A : Type 0} (m : SetMark) (at : A → Place) (G : A → List SetPiece → Type 0) (operand : A → Operand)
+    → ((x : A) (front : List SetPiece) → G x front → IsToldOperand (operand x))
     → (join : Join) → IsToldJoin join → (xs : List A) (front : List SetPiece) → IsChain m at G xs front → IsTold (chained join (map operand xs))
 chain-told m at G operand each join told [] front h g = absurd h
 chain-told m at G operand each join told (x ∷ xs) front h g =
@@ -162,7 +164,8 @@ abbrev IsToldExpr : SetExpr → Type 0
 IsToldExpr e = IsTold (meaning e)
 
 -- what one level of a tree means, from what its parts mean
-level-told : (y : SetExpr-F SetExpr SetFactor SetPart) → IsTold (expr_step (map-SetExpr SetExpr SetFactor SetPart Meaning Operand Operand meaning factor_of part_of y)) → IsToldExpr (roll-SetExpr y)
+level-told : (y : SetExpr-F SetExpr SetFactor SetPart) → IsTold (expr_step (map-SetExpr SetExpr SetFactor SetPart Meaning Operand Operand meaning factor_of part_of y))
+    → IsToldExpr (roll-SetExpr y)
 level-told y = subst IsTold (sym (fold-roll-SetExpr Meaning Operand Operand expr_step factor_step part_step y))
 
 module _ (G : SetExpr → List SetPiece → Type 0) (group : (e : SetExpr) (front : List SetPiece) → G e front → IsToldExpr e) where
